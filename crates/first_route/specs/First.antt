@@ -15,18 +15,18 @@ IsNoLater [] ys = Unit {0}
 IsNoLater (x ∷ xs) [] = ⊥
 IsNoLater (x ∷ xs) (y ∷ ys) = (x < y) ⊎ ((x ≡ y) × IsNoLater xs ys)
 
--- a legal routing on so many tracks
+-- a legal routing on that many tracks
 pub record IsRoutingOn (placement : Placement) (pins : Pins) (count : ℕ) (routing : Routing) : Type 0 where
   pub legal : IsLegal placement pins routing
   pub tracks : routing.tracks ≡ count
 
--- A legal routing on so many tracks. Of any other one the tracks are the same, or at the first net, in order of net,
+-- A legal routing on that many tracks. Of any other one the tracks are the same, or at the first net, in order of net,
 -- where they differ this one has the lower track.
 pub record IsFirstRouting (placement : Placement) (pins : Pins) (count : ℕ) (routing : Routing) : Type 0 where
   pub is : IsRoutingOn placement pins count routing
   pub first : (other : Routing) → IsRoutingOn placement pins count other
       → IsNoLater (tracks_of routing) (tracks_of other)
 
--- no legal routing has so many tracks
+-- no legal routing has that many tracks
 abbrev pub HasNoRouting : Placement → Pins → ℕ → Type 0
 HasNoRouting placement pins count = (routing : Routing) → IsRoutingOn placement pins count routing → ⊥

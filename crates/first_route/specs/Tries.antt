@@ -19,7 +19,7 @@ tries constraints tracks placed (t ∷ left) =
     (sum_below (λ track. cond (fits constraints placed (on_track t track))
     (1 + tries constraints tracks (placed ++ on_track t track ∷ []) left) 0) tracks) 0
 
--- all tries to put the trunks of a placement, in order of net, on so many tracks
+-- all tries to put the trunks of a placement, in order of net, on that many tracks
 pub record AreAllTries (placement : Placement) (pins : Pins) (count all : ℕ) : Type 0 where
   pub wires : List Wire
   pub wired : AreWires placement pins wires

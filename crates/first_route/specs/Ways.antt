@@ -31,7 +31,7 @@ is_over c upper lower = not ((c.upper == upper.net.0) && (c.lower == lower.net.0
 abbrev pub concerns : Constraint → Trunk → Bool
 concerns c t = (c.upper == t.net.0) || (c.lower == t.net.0)
 
--- the trunk and each one that is placed stand as the constraint asks
+-- the trunk and each placed one are as the constraint requires
 abbrev pub is_kept : List Trunk → Trunk → Constraint → Bool
 is_kept placed t c = not (concerns c t) || list_all (λ o. is_over c t o && is_over c o t) placed
 

@@ -60,7 +60,7 @@ fn are_kept(constraints: &[Constraint], placed: &[Trunk], trunk: &Trunk) -> bool
         .all(|constraint| is_kept(placed, trunk, constraint))
 }
 
-/// Whether the trunk shares no line with one on its track, and stands above and below others as the constraints ask.
+/// Whether the trunk shares no line with one on its track, and is above and below others as the constraints require.
 pub(crate) fn fits(constraints: &[Constraint], placed: &[Trunk], trunk: &Trunk) -> bool
     ensures { result ≡ fits constraints.now placed.now trunk.now }
 {

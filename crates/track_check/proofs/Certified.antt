@@ -7,8 +7,8 @@ use Rattle.cell_num.specs.declared.finger.Row.{Row}
 use Rattle.cell_num.specs.declared.net.Pins.{Pins}
 use Rattle.row_state.specs.declared.kind.Kinds.{Kinds}
 use Rattle.row_state.specs.declared.state.State.{State}
-use Rattle.track_lemmas.specs.declared.lemma.TrackLemma.{TrackLemma}
-use Rattle.track_lemmas.specs.Certificate.{IsJustified, IsValid}
+use Rattle.track_ways.specs.declared.lemma.TrackLemma.{TrackLemma}
+use Rattle.track_ways.specs.Certificate.{IsJustified, IsValid}
 use Rattle.track_check.specs.Refusal.{AreJustifiedBelow}
 
 pub none_below : (value : Row → State → Kinds → ℕ) (pins : Pins) (limit : ℕ) (k : Kinds) (lemmas : List TrackLemma) → AreJustifiedBelow value pins limit k lemmas 0

@@ -2,10 +2,11 @@
 use Rattle.std.proofs.Common.{ℕ, ◌≡◌, ◌+◌, ◌-◌, ◌<◌, ◌≤◌, ◌↔◌, ◌==◌, Bool, List, [], ◌∷◌, length, get_or, inl, inr, refl, sym, subst, arith, All, Any, Contains, ◌∙◌}
 use Rattle.std.specs.Prelude.{IsTrue}
 use Rattle.std.proofs.lemmas.Bool.{eq-eqb, eqb-true}
-use Rattle.std.proofs.lemmas.List.Elements.{All-contains, All-get_or}
+use Rattle.std.proofs.lemmas.List.Elements.{All-contains, All-get_or, All-head, All-nil}
 use Rattle.cell_num.specs.declared.finger.Row.{Row}
 use Rattle.cell_num.specs.declared.net.Pins.{Pins}
-use Rattle.cell_num.proofs.Lists.{all_from_contains, all_map}
+use Rattle.cell_num.proofs.Lists.{all_from_contains, all_imply, all_map}
+use Rattle.cell_num.proofs.Pairs.{Some', any_at, some_from_any}
 use Rattle.row_state.specs.declared.candidate.Candidate.{Candidate}
 use Rattle.row_state.specs.declared.kind.Kinds.{Kinds}
 use Rattle.row_state.specs.declared.state.State.{State}
@@ -17,18 +18,51 @@ use Rattle.row_state.specs.Steps.{IsPossible, column_of, state_after}
 use Rattle.row_state.proofs.Digits.{among_candidates}
 use Rattle.track_ways.specs.declared.track.NetTrack.{NetTrack}
 use Rattle.track_ways.specs.Ways.{goes_ways}
-use Rattle.track_lemmas.specs.declared.lemma.TrackLemma.{TrackLemma}
-use Rattle.track_lemmas.specs.Certificate.{NeedsMore}
-use Rattle.track_lemmas.specs.Checked.{CoversListed, IsRefutedListed}
+use Rattle.track_ways.specs.declared.lemma.TrackLemma.{TrackLemma}
+use Rattle.track_ways.specs.Certificate.{CoversAll, NeedsMore}
+use Rattle.track_ways.specs.Checked.{CoversListed, IsRefutedListed}
 use Rattle.track_check.specs.Steps.{StepFailsListed, WaysFail}
 
 -- a state that needs more gaps is refuted whatever the tracks are
 pub more_fail : (value : Row → State → Kinds → ℕ) (pins : Pins) (limit : ℕ) (k : Kinds) (earlier : List TrackLemma) (lemma : TrackLemma) (step : Step) (left : ℕ) → NeedsMore value k (state_after k lemma.state step) left → WaysFail value pins limit k earlier lemma step left
 more_fail value pins limit k earlier lemma step left more = all_from_contains (IsRefutedListed value k earlier (state_after k lemma.state step) left) (goes_ways pins limit k lemma.state lemma.tracks step) (λ way there. inl more)
 
+-- a lemma without tracks speaks of all tracks
+pub bare_covers : (s : State) (left : ℕ) (way : List NetTrack) (earlier : List TrackLemma) → Any (CoversListed s left []) earlier → Any (CoversListed s left way) earlier
+bare_covers s left way earlier any =
+    let found : Some' (CoversListed s left []) earlier = some_from_any (CoversListed s left []) earlier any in
+    any_at (CoversListed s left way) earlier found.it found.there (record {
+      state = found.holds.state;
+      enough = found.holds.enough;
+      tracks = all_imply (Contains []) (Contains way) found.it.tracks (λ t none. absurd (omega (arith, none.1))) found.holds.tracks;
+    })
+
+pub bare_fail : (value : Row → State → Kinds → ℕ) (pins : Pins) (limit : ℕ) (k : Kinds) (earlier : List TrackLemma) (lemma : TrackLemma) (step : Step) (left : ℕ) (s : State) → s ≡ state_after k lemma.state step → Any (CoversListed s left []) earlier → WaysFail value pins limit k earlier lemma step left
+bare_fail value pins limit k earlier lemma step left s after any = all_from_contains (IsRefutedListed value k earlier (state_after k lemma.state step) left) (goes_ways pins limit k lemma.state lemma.tracks step) (λ way there.
+    inr (subst (λ z. Any (CoversListed z left way) earlier) after (bare_covers s left way earlier any)))
+
+-- no tracks go through a crowded line
+pub crowded_fail : (value : Row → State → Kinds → ℕ) (pins : Pins) (limit : ℕ) (k : Kinds) (earlier : List TrackLemma) (lemma : TrackLemma) (step : Step) (left : ℕ) → goes_ways pins limit k lemma.state lemma.tracks step ≡ [] → WaysFail value pins limit k earlier lemma step left
+crowded_fail value pins limit k earlier lemma step left none = subst (All (IsRefutedListed value k earlier (state_after k lemma.state step) left)) (sym none) (All-nil (IsRefutedListed value k earlier (state_after k lemma.state step) left))
+
 refuted_known : (value : Row → State → Kinds → ℕ) (k : Kinds) (earlier : List TrackLemma) (s : State) (left : ℕ) (way : List NetTrack) → (NeedsMore value k s left → ⊥) → IsRefutedListed value k earlier s left way → Any (CoversListed s left way) earlier
 refuted_known value k earlier s left way few (inl more) = absurd (few more)
 refuted_known value k earlier s left way few (inr known) = known
+
+no_tracks : (tracks : List NetTrack) → All (Contains []) tracks → tracks ≡ []
+no_tracks [] all = refl
+no_tracks (t ∷ ts) all = absurd (omega (arith, (All-head (Contains []) t ts all).1))
+
+-- a lemma that speaks of the way without tracks speaks of any
+pub bare_is_all : (s : State) (gaps : ℕ) (lemmas : List TrackLemma) → Any (CoversListed s gaps []) lemmas ↔ Any (CoversAll s gaps) lemmas
+bare_is_all s gaps lemmas = (
+  λ any.
+      let found : Some' (CoversListed s gaps []) lemmas = some_from_any (CoversListed s gaps []) lemmas any in
+      any_at (CoversAll s gaps) lemmas found.it found.there (record { state = found.holds.state; enough = found.holds.enough; any = no_tracks found.it.tracks found.holds.tracks }),
+  λ any.
+      let found : Some' (CoversAll s gaps) lemmas = some_from_any (CoversAll s gaps) lemmas any in
+      any_at (CoversListed s gaps []) lemmas found.it found.there (record { state = found.holds.state; enough = found.holds.enough; tracks = subst (All (Contains [])) (sym found.holds.any) (All-nil (Contains [])) }),
+)
 
 -- else earlier lemmas must speak of it
 pub known_fail : (value : Row → State → Kinds → ℕ) (pins : Pins) (limit : ℕ) (k : Kinds) (earlier : List TrackLemma) (lemma : TrackLemma) (step : Step) (left : ℕ) (s : State) (ways : List (List NetTrack)) (known : Bool) → s ≡ state_after k lemma.state step → ways ≡ goes_ways pins limit k lemma.state lemma.tracks step → (NeedsMore value k s left → ⊥) → IsTrue known ↔ All (λ way. Any (CoversListed s left way) earlier) ways → IsTrue known ↔ WaysFail value pins limit k earlier lemma step left

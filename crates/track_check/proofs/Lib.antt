@@ -4,3 +4,5 @@ pub mod Counting
 pub mod Failing
 pub mod Listed
 pub mod Loops
+pub mod NotAccepted
+pub mod Noted

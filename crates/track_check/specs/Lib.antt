@@ -1,4 +1,6 @@
--- What contracts of public calls cite, and what these definitions stand on.
+-- What contracts of public calls cite, and what these definitions depend on.
+pub mod Noted
 pub mod Refusal
 pub mod Steps
 pub mod Touches
+pub mod Accepted

@@ -5,8 +5,8 @@ use Rattle.cell_num.specs.declared.net.Pins.{Pins}
 use Rattle.row_state.specs.declared.kind.Kinds.{Kinds}
 use Rattle.row_state.specs.declared.state.State.{State}
 use Rattle.row_state.specs.Start.{start_of}
-use Rattle.track_lemmas.specs.declared.lemma.TrackLemma.{TrackLemma}
-use Rattle.track_lemmas.specs.Certificate.{AreJustified, CoversAll, IsJustified}
+use Rattle.track_ways.specs.declared.lemma.TrackLemma.{TrackLemma}
+use Rattle.track_ways.specs.Certificate.{AreJustified, CoversAll, IsJustified}
 use Rattle.track_check.specs.declared.refused.TracksRefused.{TracksRefused}
 use Rattle.track_check.specs.declared.refused.TracksRefused.TheVariants as because
 
@@ -24,7 +24,7 @@ pub record IsFirstUnjustified
   pub unjustified : (d : TrackLemma)
       → IsJustified value pins limit k (take at lemmas) (slice_index_or lemmas at d) → ⊥
 
--- all lemmas are justified, and none speaks of the start state, of so many gaps and of any tracks
+-- all lemmas are justified, and none is about the start state, that many gaps and any tracks
 pub record HasNoStart
     (value : Row → State → Kinds → ℕ) (pins : Pins) (limit : ℕ) (k : Kinds) (gaps : ℕ) (lemmas : List TrackLemma)
     : Type 0 where

@@ -9,8 +9,8 @@ use Rattle.row_state.specs.Completion.{cost_of}
 use Rattle.row_state.specs.Steps.{IsPossible, column_of, state_after}
 use Rattle.track_ways.specs.declared.track.NetTrack.{NetTrack}
 use Rattle.track_ways.specs.Ways.{goes_ways}
-use Rattle.track_lemmas.specs.declared.lemma.TrackLemma.{TrackLemma}
-use Rattle.track_lemmas.specs.Checked.{IsRefutedListed}
+use Rattle.track_ways.specs.declared.lemma.TrackLemma.{TrackLemma}
+use Rattle.track_ways.specs.Checked.{IsRefutedListed}
 
 -- the same net on the same track
 abbrev pub is_track : NetTrack → NetTrack → Bool
@@ -20,7 +20,7 @@ is_track t u = (u.net.0 == t.net.0) && (u.track == t.track)
 abbrev pub agrees : NetTrack → NetTrack → Bool
 agrees t u = not (t.net.0 == u.net.0) || (t.track == u.track)
 
--- with so many gaps left after the column, all listed tracks after it are refuted
+-- with that many gaps left after the column, all listed tracks after it are refuted
 abbrev pub WaysFail :
     (Row → State → Kinds → ℕ) → Pins → ℕ → Kinds → List TrackLemma → TrackLemma → Step → ℕ → Type 0
 WaysFail value pins limit k earlier lemma step left =

@@ -13,7 +13,7 @@ use Rattle.track_check.specs.declared.nets.StateNets.{StateNets}
 abbrev pub counted_if : Bool → ℕ → ℕ
 counted_if is count = cond is count 0
 
--- how often so many fingers of a kind have the net as an end or as their gate
+-- how often that many fingers of a kind have the net as an end or as their gate
 abbrev pub kind_touches : ℕ → Kind × ℕ → ℕ
 kind_touches net pair =
     counted_if (pair.0.lo.0 == net) pair.1 + counted_if (pair.0.hi.0 == net) pair.1

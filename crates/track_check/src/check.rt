@@ -1,7 +1,6 @@
 // Whether lemmas certify that each row needs more tracks.
-ghost use Rattle.std.specs.Prelude.{◌≡◌, ◌≢◌, ◌≤◌, ◌<◌, ◌↔◌, ℕ, All, Any, IfErr, IfOk, IfNone, IfSome, IsTrue};
-ghost use Rattle.std.specs.Prelude.{[], length, slice_index_or, take};
-ghost use Rattle.std.specs.Prelude.{List as Sequence};
+ghost use Rattle.std.specs.Prelude.{◌≡◌, ◌≢◌, ◌+◌, ◌≤◌, ◌<◌, ◌↔◌, ℕ, All, IfErr, IfOk, IfNone, IfSome, IsTrue, OnOk};
+ghost use Rattle.std.specs.Prelude.{length, slice_index_or, take, List as Sequence};
 ghost use Rattle.cell_num.specs.declared.finger.Fingers.{Fingers};
 ghost use Rattle.row_model.specs.declared.column.Column.{Column};
 ghost use Rattle.row_model.specs.Arrangement.{IsArrangement};
@@ -10,44 +9,69 @@ ghost use Rattle.row_place.specs.Places.{placement_of};
 ghost use Rattle.channel_route.specs.declared.routing.Routing.{Routing};
 ghost use Rattle.channel_route.specs.Routing.{IsLegal};
 ghost use Rattle.row_state.specs.Candidates.{AreCandidates};
-ghost use Rattle.row_state.specs.Start.{AreKinds, start_of};
-ghost use Rattle.track_lemmas.specs.declared.lemma.TrackLemma.{TrackLemma as LemmaOf};
-ghost use Rattle.track_lemmas.specs.Certificate.{AreJustified, Certifies, CoversAll, IsJustified, IsTrueOf, IsValid};
+ghost use Rattle.row_state.specs.Start.{AreKinds, IsState, start_of};
+ghost use Rattle.track_ways.specs.declared.lemma.TrackLemma.{TrackLemma as LemmaOf};
+ghost use Rattle.track_ways.specs.Certificate.{AreJustified, Certifies, IsJustified, IsTrueOf, IsValid};
 ghost use Rattle.track_check.specs.declared.refused.TracksRefused.TheVariants as because;
+ghost use Rattle.track_check.specs.Noted.{AreNoted};
 ghost use Rattle.track_check.specs.Refusal.{IsFirstUnjustified, Refuses};
 ghost use Rattle.track_check.specs.Touches.{AreTouches};
 
-use crate::{TrackGrounds, TracksRefused, is_justified, touches};
+use crate::{NotedLemmas, Places, TrackGrounds, TracksRefused, is_justified, touches};
 use cell_num::{NoMemory, Pins};
-use row_state::{Kinds, RowBound, State, candidates, start};
+use row_state::{Kinds, Numbered, RowBound, candidates, code, start};
 use std::alloc::Global;
-use track_lemmas::{TrackLemma, TrackLemmas};
-use track_ways::NetTracks;
+use track_ways::{TrackLemma, TrackLemmas};
 
 // Whether the lemma at the place is justified by those before it.
 fn is_justified_at<B: RowBound>(
     alloc: Global,
     grounds: &TrackGrounds<B>,
     lemmas: &[TrackLemma],
+    places: &Places,
     at: usize,
 ) -> Result<bool, NoMemory>
     requires candidates { AreCandidates grounds.now.kinds.now grounds.now.candidates.now }
     requires all { AreTouches grounds.now.kinds.now (start_of grounds.now.kinds.now) grounds.now.all.now }
     requires within { at < length lemmas.now }
+    requires noted { AreNoted grounds.now.kinds.now (take at lemmas.now) places.now }
     ensures { IfOk result (λ justified. (d : LemmaOf) →
         All (IsValid grounds.now.pins.now grounds.now.kinds.now) (take at lemmas.now) →
         (IsTrue justified ↔ IsJustified (B.value grounds.now.bound.now) grounds.now.pins.now grounds.now.limit
         grounds.now.kinds.now (take at lemmas.now) (slice_index_or lemmas.now at d))) }
 {
-    let justified = is_justified(alloc, grounds, &lemmas[..at], &lemmas[at])?;
+    let earlier = NotedLemmas {
+        lemmas: &lemmas[..at],
+        places,
+    };
+    let justified = is_justified(alloc, grounds, &earlier, &lemmas[at])?;
     Ok(justified)
 }
 
-// The place of the first lemma that is not justified by those before it.
+// Notes the lemma at the place after those before it.
+fn note(
+    alloc: Global,
+    kinds: &Kinds,
+    lemmas: &[TrackLemma],
+    places: &mut Places,
+    at: usize,
+) -> Result<(), NoMemory>
+    requires within { at < length lemmas.now }
+    requires state { (d : LemmaOf) → IsState kinds.now (slice_index_or lemmas.now at d).state }
+    requires noted { AreNoted kinds.now (take at lemmas.now) places.old }
+    ensures { OnOk result (AreNoted kinds.now (take (at + 1) lemmas.now) places.new) }
+{
+    let number = code(&lemmas[at].state, kinds);
+    places.add(alloc, number, at)?;
+    Ok(())
+}
+
+// The place of the first lemma that is not justified by those before it. Where there is none, all lemmas are noted.
 fn first_unjustified<B: RowBound>(
     alloc: Global,
     grounds: &TrackGrounds<B>,
     lemmas: &[TrackLemma],
+    places: &mut Places,
 ) -> Result<Option<usize>, NoMemory>
     requires candidates { AreCandidates grounds.now.kinds.now grounds.now.candidates.now }
     requires all { AreTouches grounds.now.kinds.now (start_of grounds.now.kinds.now) grounds.now.all.now }
@@ -55,54 +79,19 @@ fn first_unjustified<B: RowBound>(
         grounds.now.limit grounds.now.kinds.now lemmas.now)) }
     ensures first { IfOk result (λ first. IfSome first (IsFirstUnjustified (B.value grounds.now.bound.now)
         grounds.now.pins.now grounds.now.limit grounds.now.kinds.now lemmas.now)) }
+    ensures noted { IfOk result (λ first. IfNone first (AreNoted grounds.now.kinds.now lemmas.now places.new)) }
 {
     for at in 0..lemmas.len() {
-        if !is_justified_at(alloc, grounds, lemmas, at)? {
+        if !is_justified_at(alloc, grounds, lemmas, places, at)? {
             return Ok(Some(at));
         }
+        note(alloc, grounds.kinds, lemmas, places, at)?;
     }
     Ok(None)
 }
 
-fn is_same(a: &State, b: &State) -> bool
-    ensures { IsTrue result ↔ (a.now ≡ b.now) }
-{
-    a == b
-}
-
-#[tactic(auto, using(crate::proofs::Failing::no_ways))]
-fn is_empty(tracks: &NetTracks) -> bool
-    ensures { IsTrue result ↔ (tracks.now ≡ []) }
-{
-    tracks.len() == 0
-}
-
-fn covers_all(lemma: &TrackLemma, state: &State, gaps: u32) -> bool
-    ensures { IsTrue result ↔ CoversAll state.now gaps lemma.now }
-{
-    if !is_same(&lemma.state, state) {
-        return false;
-    }
-    if lemma.gaps < gaps {
-        return false;
-    }
-    is_empty(&lemma.tracks)
-}
-
-// Whether a lemma speaks of the state, of that many gaps and of any tracks.
-fn is_covered(lemmas: &[TrackLemma], state: &State, gaps: u32) -> bool
-    ensures { IsTrue result ↔ Any (CoversAll state.now gaps) lemmas.now }
-{
-    for lemma in lemmas {
-        if covers_all(lemma, state, gaps) {
-            return true;
-        }
-    }
-    false
-}
-
 /// Checks a certificate that each row of the kinds' fingers with at most N gaps needs more tracks than the limit:
-/// each lemma is justified by those before it, and one speaks of the start state, of the gaps and of any tracks. Else
+/// each lemma is justified by those before it, and one is about the start state, the gaps and any tracks. Else
 /// the first cause to refuse it.
 pub fn check_tracks<B: RowBound>(
     alloc: Global,
@@ -135,11 +124,17 @@ pub fn check_tracks<B: RowBound>(
         all: &all,
     };
     let lemmas = lemmas.as_slice();
-    let unjustified = first_unjustified(alloc, &grounds, lemmas)?;
+    let mut places = Places::new(alloc);
+    let unjustified = first_unjustified(alloc, &grounds, lemmas, &mut places)?;
     if let Some(at) = unjustified {
         return Err(TracksRefused::Unjustified { at });
     }
-    if !is_covered(lemmas, &first, gaps) {
+    let noted = NotedLemmas {
+        lemmas,
+        places: &places,
+    };
+    let from = Numbered::new(first, kinds);
+    if !noted.covers(&from, gaps, &[]) {
         return Err(TracksRefused::NoStart);
     }
     Ok(())

@@ -19,7 +19,7 @@ fn add_at(table: &mut [u32; NETS], net: &NetNo, count: u32)
     table[net.0 as usize] += count;
 }
 
-// So many fingers of the kind.
+// That many fingers of the kind.
 fn add_kind(table: &mut [u32; NETS], kind: &Kind, count: u32)
     requires lo { kind.now.lo.0 < MOST_NETS }
     requires hi { kind.now.hi.0 < MOST_NETS }

@@ -1,15 +1,16 @@
-// Whether a state with tracks is refuted: it needs more gaps, or an earlier lemma speaks of it.
-ghost use Rattle.std.specs.Prelude.{◌≡◌, ◌<◌, ◌↔◌, All, Any, Contains, IsTrue};
+// Whether a state with tracks is refuted: it needs more gaps, or an earlier lemma is about it.
+ghost use Rattle.std.specs.Prelude.{◌≡◌, ◌<◌, ◌↔◌, All, Any, Contains, IsTrue, false};
 ghost use Rattle.std.specs.List.{list_all, list_any};
 ghost use Rattle.row_state.specs.Start.{IsState};
-ghost use Rattle.track_lemmas.specs.Certificate.{NeedsMore};
-ghost use Rattle.track_lemmas.specs.Checked.{CoversListed};
+ghost use Rattle.track_ways.specs.Certificate.{NeedsMore};
+ghost use Rattle.track_ways.specs.Checked.{CoversListed};
+ghost use Rattle.track_check.specs.Noted.{AreNotedAt, IsPassed};
 ghost use Rattle.track_check.specs.Steps.{is_track};
 
+use crate::Places;
 use cell_num::Row;
-use row_state::{Kinds, RowBound, State};
-use track_lemmas::TrackLemma;
-use track_ways::{NetTrack, NetTracks};
+use row_state::{Kinds, Numbered, RowBound, State};
+use track_ways::{NetTrack, NetTracks, TrackLemma};
 
 fn is_above<B: RowBound>(bound: &B, row: Row, kinds: &Kinds, state: &State, gaps: u32) -> bool
     requires state { IsState kinds.now state.now }
@@ -18,7 +19,7 @@ fn is_above<B: RowBound>(bound: &B, row: Row, kinds: &Kinds, state: &State, gaps
     gaps < bound.bound(row, state, kinds)
 }
 
-/// Whether the bound of a row is above the gaps: no completion of the state has so few.
+/// Whether the bound of a row is above the gaps: each completion of the state has more.
 pub fn needs_more<B: RowBound>(bound: &B, kinds: &Kinds, state: &State, gaps: u32) -> bool
     requires state { IsState kinds.now state.now }
     ensures { IsTrue result ↔ NeedsMore (B.value bound.now) kinds.now state.now gaps }
@@ -47,20 +48,15 @@ fn all_in(way: &[NetTrack], tracks: &[NetTrack]) -> bool
     tracks.iter().all(|t| is_in(way, t))
 }
 
-fn are_in(way: &[NetTrack], tracks: &[NetTrack]) -> bool
+/// Whether the way has all these tracks.
+pub fn lists(way: &[NetTrack], tracks: &[NetTrack]) -> bool
     ensures { IsTrue result ↔ All (Contains way.now) tracks.now }
 {
     all_in(way, tracks)
 }
 
-fn lists(way: &NetTracks, tracks: &NetTracks) -> bool
-    ensures { IsTrue result ↔ All (Contains way.now) tracks.now }
-{
-    are_in(way.as_slice(), tracks.as_slice())
-}
-
-/// Whether the lemma speaks of the state, of as many gaps or more, and of tracks that the way has.
-pub fn covers(lemma: &TrackLemma, state: &State, gaps: u32, way: &NetTracks) -> bool
+// Whether the lemma is about the state, as many gaps or more, and tracks that the way has.
+fn covers(lemma: &TrackLemma, state: &State, gaps: u32, way: &[NetTrack]) -> bool
     ensures { IsTrue result ↔ CoversListed state.now gaps way.now lemma.now }
 {
     if !is_same(&lemma.state, state) {
@@ -69,33 +65,59 @@ pub fn covers(lemma: &TrackLemma, state: &State, gaps: u32, way: &NetTracks) -> 
     if lemma.gaps < gaps {
         return false;
     }
-    lists(way, &lemma.tracks)
+    lists(way, lemma.tracks.as_slice())
 }
 
-fn is_covered(earlier: &[TrackLemma], state: &State, gaps: u32, way: &NetTracks) -> bool
-    ensures { IsTrue result ↔ Any (CoversListed state.now gaps way.now) earlier.now }
-{
-    for lemma in earlier {
-        if covers(lemma, state, gaps, way) {
-            return true;
-        }
-    }
-    false
+/// Lemmas, with where those on each state are.
+#[derive(Clone, Copy)]
+pub struct NotedLemmas<'a> {
+    pub lemmas: &'a [TrackLemma],
+    pub places: &'a Places,
 }
 
-/// Whether an earlier lemma speaks of the state, of that many gaps, for each of the ways.
-pub(crate) fn are_covered(
-    earlier: &[TrackLemma],
+// Whether the lemma at the place is about the state, as many gaps and the way.
+#[tactic(auto, using(crate::proofs::Noted::covered_at, crate::proofs::Noted::passed_at))]
+fn is_covered_at(
+    lemmas: &[TrackLemma],
+    at: usize,
     state: &State,
     gaps: u32,
-    ways: &[NetTracks],
+    way: &[NetTrack],
 ) -> bool
-    ensures { IsTrue result ↔ All (λ way. Any (CoversListed state.now gaps way) earlier.now) ways.now }
+    ensures yes { IsTrue result → Any (CoversListed state.now gaps way.now) lemmas.now }
+    ensures no { result ≡ false → IsPassed lemmas.now state.now gaps way.now at }
 {
-    for way in ways {
-        if !is_covered(earlier, state, gaps, way) {
-            return false;
-        }
+    match lemmas.get(at) {
+        Some(lemma) => covers(lemma, state, gaps, way),
+        None => false,
     }
-    true
+}
+
+impl NotedLemmas<'_> {
+    /// Whether one of them is about the state, as many gaps or more, and tracks that the way has. Only those are
+    /// looked at that are noted with the number of the state.
+    pub fn covers(&self, at: &Numbered, gaps: u32, way: &[NetTrack]) -> bool
+        requires { AreNotedAt self.now.lemmas.now self.now.places.now at.now }
+        ensures { IsTrue result ↔ Any (CoversListed at.now.state gaps way.now) self.now.lemmas.now }
+    {
+        for place in self.places.at(at.code) {
+            if is_covered_at(self.lemmas, *place, &at.state, gaps, way) {
+                return true;
+            }
+        }
+        false
+    }
+
+    // Whether one of them is about the state and that many gaps, for each of the ways.
+    pub(crate) fn cover_all(&self, at: &Numbered, gaps: u32, ways: &[NetTracks]) -> bool
+        requires { AreNotedAt self.now.lemmas.now self.now.places.now at.now }
+        ensures { IsTrue result ↔ All (λ way. Any (CoversListed at.now.state gaps way) self.now.lemmas.now) ways.now }
+    {
+        for way in ways {
+            if !self.covers(at, gaps, way.as_slice()) {
+                return false;
+            }
+        }
+        true
+    }
 }

@@ -1,26 +1,23 @@
 // Whether a lemma is justified by those before it.
-ghost use Rattle.std.specs.Prelude.{◌≡◌, ◌↔◌, [], All, IfOk, IsTrue, ℕ};
-ghost use Rattle.row_state.specs.declared.step.Step.{Step as StepOf};
-ghost use Rattle.row_state.specs.Candidates.{AreCandidates, IsCandidate, IsNumbered};
+ghost use Rattle.std.specs.Prelude.{◌≡◌, ◌↔◌, [], All, IfOk, IsTrue};
+ghost use Rattle.row_state.specs.Candidates.{AreCandidates};
 ghost use Rattle.row_state.specs.Start.{HasFingers, IsState, start_of};
-ghost use Rattle.row_state.specs.Steps.{IsPossible};
 ghost use Rattle.track_ways.specs.States.{is_behind};
 ghost use Rattle.track_ways.specs.Tables.{marked};
 ghost use Rattle.track_ways.specs.Ways.{ends_ways};
-ghost use Rattle.track_lemmas.specs.Certificate.{IsJustified, IsValid};
-ghost use Rattle.track_lemmas.specs.Checked.{BranchesListed, IsJustifiedListed};
-ghost use Rattle.track_check.specs.Steps.{StepFailsListed, WaysFail};
+ghost use Rattle.track_ways.specs.Certificate.{IsJustified, IsValid};
+ghost use Rattle.track_ways.specs.Checked.{BranchesListed, IsJustifiedListed};
+ghost use Rattle.track_check.specs.Noted.{AreNoted};
 ghost use Rattle.track_check.specs.Touches.{AreTouches};
 
-use crate::known::are_covered;
+use crate::steps::steps_fail;
 use crate::valid::is_valid;
-use crate::{needs_more, nets_ahead, state_nets, touches};
+use crate::{NotedLemmas, needs_more, state_nets, touches};
 use cell_num::{NoMemory, Pins};
-use row_state::{Candidate, Candidates, Kinds, Numbered, RowBound, State, has_fingers, is_state};
+use row_state::{Candidates, Kinds, Numbered, RowBound, State, has_fingers, is_state};
 use row_trails::NETS;
 use std::alloc::Global;
-use track_lemmas::TrackLemma;
-use track_ways::{TrackWays, last_ways, step_ways};
+use track_ways::{TrackLemma, TrackWays, end_uncrowded, last_ways};
 
 /// What lemmas on tracks may rest on beside earlier ones: the cell, the number of tracks, all columns that may ever
 /// come next, the bound of a row, and how often the start state touches each net.
@@ -35,99 +32,6 @@ pub struct TrackGrounds<'a, B> {
     pub all: &'a [u32; NETS],
 }
 
-// Whether all listed tracks after the column are refuted, with that many gaps left.
-fn ways_fail<B: RowBound>(
-    alloc: Global,
-    grounds: &TrackGrounds<B>,
-    earlier: &[TrackLemma],
-    lemma: &TrackLemma,
-    from: &Numbered,
-    before: &[bool; NETS],
-    next: &Candidate,
-    left: u32,
-) -> Result<bool, NoMemory>
-    requires numbered { IsNumbered grounds.now.kinds.now from.now }
-    requires state { from.now.state ≡ lemma.now.state }
-    requires before { marked before.now ≡ is_behind grounds.now.kinds.now lemma.now.state }
-    requires next { IsCandidate grounds.now.kinds.now next.now }
-    requires step { IsPossible grounds.now.kinds.now lemma.now.state next.now.step }
-    ensures { IfOk result (λ fail. IsTrue fail ↔ WaysFail (B.value grounds.now.bound.now) grounds.now.pins.now
-        grounds.now.limit grounds.now.kinds.now earlier.now lemma.now next.now.step left) }
-{
-    let kinds = grounds.kinds;
-    let after = from.behind(alloc, kinds, next)?;
-    if needs_more(grounds.bound, kinds, &after.state, left) {
-        return Ok(true);
-    }
-    let here = touches(kinds, &after.state);
-    let ahead = nets_ahead(&here);
-    let ways = step_ways(
-        alloc,
-        grounds.pins,
-        grounds.limit,
-        kinds,
-        &lemma.state,
-        before,
-        &next.step,
-        &ahead,
-        &lemma.tracks,
-    )?;
-    Ok(are_covered(earlier, &after.state, left, ways.as_slice()))
-}
-
-// Whether the column leaves the lemma justified.
-fn step_fails<B: RowBound>(
-    alloc: Global,
-    grounds: &TrackGrounds<B>,
-    earlier: &[TrackLemma],
-    lemma: &TrackLemma,
-    from: &Numbered,
-    before: &[bool; NETS],
-    next: &Candidate,
-) -> Result<bool, NoMemory>
-    requires numbered { IsNumbered grounds.now.kinds.now from.now }
-    requires state { from.now.state ≡ lemma.now.state }
-    requires before { marked before.now ≡ is_behind grounds.now.kinds.now lemma.now.state }
-    requires next { IsCandidate grounds.now.kinds.now next.now }
-    ensures { IfOk result (λ fails. IsTrue fails ↔ StepFailsListed (B.value grounds.now.bound.now) grounds.now.pins.now
-        grounds.now.limit grounds.now.kinds.now earlier.now lemma.now next.now.step) }
-{
-    if !from.allows(grounds.kinds, next) {
-        return Ok(true);
-    }
-    let cost = from.cost(next);
-    if lemma.gaps < cost {
-        return Ok(true);
-    }
-    let left = lemma.gaps - cost;
-    let fail = ways_fail(alloc, grounds, earlier, lemma, from, before, next, left)?;
-    Ok(fail)
-}
-
-#[tactic(auto, using(crate::proofs::Failing::candidate_is))]
-fn steps_fail<B: RowBound>(
-    alloc: Global,
-    grounds: &TrackGrounds<B>,
-    earlier: &[TrackLemma],
-    lemma: &TrackLemma,
-    from: &Numbered,
-    before: &[bool; NETS],
-) -> Result<bool, NoMemory>
-    requires candidates { AreCandidates grounds.now.kinds.now grounds.now.candidates.now }
-    requires numbered { IsNumbered grounds.now.kinds.now from.now }
-    requires state { from.now.state ≡ lemma.now.state }
-    requires before { marked before.now ≡ is_behind grounds.now.kinds.now lemma.now.state }
-    ensures { IfOk result (λ fail. IsTrue fail ↔ ((step : StepOf) → StepFailsListed (B.value grounds.now.bound.now)
-        grounds.now.pins.now grounds.now.limit grounds.now.kinds.now earlier.now lemma.now step)) }
-{
-    for next in grounds.candidates.as_slice() {
-        if !step_fails(alloc, grounds, earlier, lemma, from, before, next)? {
-            return Ok(false);
-        }
-    }
-    Ok(true)
-}
-
 #[tactic(auto, using(crate::proofs::Failing::no_ways))]
 fn is_empty(ways: &TrackWays) -> bool
     ensures { IsTrue result ↔ (ways.now ≡ []) }
@@ -135,7 +39,7 @@ fn is_empty(ways: &TrackWays) -> bool
     ways.len() == 0
 }
 
-// Whether a finger is left, or no tracks go through the last line.
+// Whether a finger is left, or no tracks go through the last line. None go through a crowded one.
 fn end_fails<B: RowBound>(
     alloc: Global,
     grounds: &TrackGrounds<B>,
@@ -148,18 +52,14 @@ fn end_fails<B: RowBound>(
         → ends_ways grounds.now.pins.now grounds.now.limit grounds.now.kinds.now lemma.now.state lemma.now.tracks
         ≡ [])) }
 {
-    if has_fingers(&lemma.state) {
+    let (pins, limit, kinds, state) = (grounds.pins, grounds.limit, grounds.kinds, &lemma.state);
+    if has_fingers(state) {
         return Ok(true);
     }
-    let ways = last_ways(
-        alloc,
-        grounds.pins,
-        grounds.limit,
-        grounds.kinds,
-        &lemma.state,
-        before,
-        &lemma.tracks,
-    )?;
+    if !end_uncrowded(alloc, pins, limit, kinds, state, before)? {
+        return Ok(true);
+    }
+    let ways = last_ways(alloc, pins, limit, kinds, state, before, &lemma.tracks)?;
     Ok(is_empty(&ways))
 }
 
@@ -173,15 +73,16 @@ fn copied(state: &State) -> Result<State, NoMemory>
 fn branches<B: RowBound>(
     alloc: Global,
     grounds: &TrackGrounds<B>,
-    earlier: &[TrackLemma],
+    earlier: &NotedLemmas,
     lemma: &TrackLemma,
     before: &[bool; NETS],
 ) -> Result<bool, NoMemory>
     requires candidates { AreCandidates grounds.now.kinds.now grounds.now.candidates.now }
     requires valid { IsState grounds.now.kinds.now lemma.now.state }
     requires before { marked before.now ≡ is_behind grounds.now.kinds.now lemma.now.state }
+    requires noted { AreNoted grounds.now.kinds.now earlier.now.lemmas.now earlier.now.places.now }
     ensures { IfOk result (λ fail. IsTrue fail ↔ BranchesListed (B.value grounds.now.bound.now) grounds.now.pins.now
-        grounds.now.limit grounds.now.kinds.now earlier.now lemma.now) }
+        grounds.now.limit grounds.now.kinds.now earlier.now.lemmas.now lemma.now) }
 {
     if !end_fails(alloc, grounds, lemma, before)? {
         return Ok(false);
@@ -196,14 +97,15 @@ fn branches<B: RowBound>(
 fn is_justified_at<B: RowBound>(
     alloc: Global,
     grounds: &TrackGrounds<B>,
-    earlier: &[TrackLemma],
+    earlier: &NotedLemmas,
     lemma: &TrackLemma,
 ) -> Result<bool, NoMemory>
     requires candidates { AreCandidates grounds.now.kinds.now grounds.now.candidates.now }
     requires all { AreTouches grounds.now.kinds.now (start_of grounds.now.kinds.now) grounds.now.all.now }
     requires valid { IsState grounds.now.kinds.now lemma.now.state }
+    requires noted { AreNoted grounds.now.kinds.now earlier.now.lemmas.now earlier.now.places.now }
     ensures { IfOk result (λ yes. IsTrue yes ↔ IsJustifiedListed (B.value grounds.now.bound.now) grounds.now.pins.now
-        grounds.now.limit grounds.now.kinds.now earlier.now lemma.now) }
+        grounds.now.limit grounds.now.kinds.now earlier.now.lemmas.now lemma.now) }
 {
     let kinds = grounds.kinds;
     let here = touches(kinds, &lemma.state);
@@ -222,16 +124,18 @@ fn is_justified_at<B: RowBound>(
 pub fn is_justified<B: RowBound>(
     alloc: Global,
     grounds: &TrackGrounds<B>,
-    earlier: &[TrackLemma],
+    earlier: &NotedLemmas,
     lemma: &TrackLemma,
 ) -> Result<bool, NoMemory>
     requires candidates { AreCandidates grounds.now.kinds.now grounds.now.candidates.now }
     requires all { AreTouches grounds.now.kinds.now (start_of grounds.now.kinds.now) grounds.now.all.now }
+    requires noted { AreNoted grounds.now.kinds.now earlier.now.lemmas.now earlier.now.places.now }
     ensures listed { IfOk result (λ yes. IsTrue yes ↔ IsJustifiedListed (B.value grounds.now.bound.now)
-        grounds.now.pins.now grounds.now.limit grounds.now.kinds.now earlier.now lemma.now) }
-    ensures justified { IfOk result (λ yes. All (IsValid grounds.now.pins.now grounds.now.kinds.now) earlier.now →
-        (IsTrue yes ↔ IsJustified (B.value grounds.now.bound.now)
-        grounds.now.pins.now grounds.now.limit grounds.now.kinds.now earlier.now lemma.now)) }
+        grounds.now.pins.now grounds.now.limit grounds.now.kinds.now earlier.now.lemmas.now lemma.now) }
+    ensures justified { IfOk result (λ yes.
+        All (IsValid grounds.now.pins.now grounds.now.kinds.now) earlier.now.lemmas.now →
+        (IsTrue yes ↔ IsJustified (B.value grounds.now.bound.now) grounds.now.pins.now grounds.now.limit
+        grounds.now.kinds.now earlier.now.lemmas.now lemma.now)) }
 {
     grounds.kinds.show_limits();
     if !is_state(&lemma.state, grounds.kinds) {

@@ -1,18 +1,25 @@
 // A checker of certificates of tracks: whether a lemma is justified by those before it, and whether a list of lemmas
-// shows that each row with that many gaps needs more tracks.
+// shows that each row with that many gaps needs more tracks. The same of a certificate's text.
 #![tactic(auto)]
 
+mod accept;
 pub mod check;
 pub mod counts;
 pub mod known;
 pub mod lemma;
 pub mod nets;
+pub mod places;
 mod refused;
+mod rejected;
+mod steps;
 mod valid;
 
+pub use accept::{TracksProved, check_text};
 pub use check::check_tracks;
 pub use counts::touches;
-pub use known::{covers, needs_more};
+pub use known::{NotedLemmas, lists, needs_more};
 pub use lemma::{TrackGrounds, is_justified};
 pub use nets::{StateNets, ends_fit, nets_ahead, state_nets};
+pub use places::Places;
 pub use refused::TracksRefused;
+pub use rejected::TextRejected;

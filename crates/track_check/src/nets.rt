@@ -12,6 +12,7 @@ ghost use Rattle.track_check.specs.Touches.{AreNetsOf, AreTouches};
 
 use cell_num::{NetNo, Pins};
 use row_trails::NETS;
+use track_ways::{is_marked, is_rail};
 
 /// The nets with a place before the last node line of a state, and those with one at that line or later, by number.
 #[derive(Clone, Copy, Debug)]
@@ -68,21 +69,6 @@ pub fn ends_fit(all: &[u32; NETS], here: &[u32; NETS]) -> bool
         → (IsTrue result ↔ EndsFit k s) }
 {
     are_at_most(here, all)
-}
-
-fn is_marked(table: &[bool; NETS], net: NetNo) -> bool
-    ensures { result ≡ marked table.now net }
-{
-    match table.get(net.0 as usize) {
-        Some(marked) => *marked,
-        None => false,
-    }
-}
-
-fn is_rail(pins: &Pins, net: NetNo) -> bool
-    ensures { result ≡ is_rail pins.now net }
-{
-    net.0 == pins.vdd.0 || net.0 == pins.gnd.0
 }
 
 fn is_passed(nets: &StateNets, net: NetNo) -> bool

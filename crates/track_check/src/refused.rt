@@ -9,7 +9,7 @@ pub enum TracksRefused {
     /// The first lemma that is not justified by those before it, by its place in the list.
     #[error("Unjustified")]
     Unjustified { at: usize },
-    /// No lemma speaks of the start state, of that many gaps and of any tracks.
+    /// No lemma is about the start state, that many gaps and any tracks.
     #[error("NoStart")]
     NoStart,
     #[error("NoMemory")]

@@ -7,7 +7,7 @@ ghost use Rattle.row_state.specs.Start.{IsState, start_of};
 ghost use Rattle.track_ways.specs.States.{is_open_at};
 ghost use Rattle.track_ways.specs.declared.track.NetTrack.{NetTrack as NetTrackOf};
 ghost use Rattle.track_ways.specs.Tracks.{IsSingle};
-ghost use Rattle.track_lemmas.specs.Certificate.{IsValid};
+ghost use Rattle.track_ways.specs.Certificate.{IsValid};
 ghost use Rattle.track_check.specs.Touches.{AreNetsOf, AreTouches};
 ghost use Rattle.track_check.specs.Steps.{agrees};
 
@@ -15,8 +15,7 @@ use crate::{StateNets, ends_fit, state_nets};
 use cell_num::Pins;
 use row_state::Kinds;
 use row_trails::NETS;
-use track_lemmas::TrackLemma;
-use track_ways::NetTrack;
+use track_ways::{NetTrack, TrackLemma};
 
 fn are_open(pins: &Pins, nets: &StateNets, tracks: &[NetTrack]) -> bool
     ensures { (k : KindsOf) (s : StateOf) → AreNetsOf k s nets.now

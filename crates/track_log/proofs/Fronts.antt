@@ -8,7 +8,7 @@ use Rattle.log_lines.specs.Words.{is_word, words_in}
 use Rattle.bound_log.specs.declared.fault.LogFault.{LogFault}
 use Rattle.bound_log.specs.declared.fault.LogFault.TheVariants as fault
 use Rattle.bound_log.specs.Reading.{end_at}
-use Rattle.track_lemmas.specs.declared.lemma.TrackLemma.{TrackLemma}
+use Rattle.track_ways.specs.declared.lemma.TrackLemma.{TrackLemma}
 use Rattle.track_log.specs.Line.{lemma_in}
 use Rattle.track_log.specs.Reading.{lemmas_at}
 

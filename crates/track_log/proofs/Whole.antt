@@ -17,7 +17,7 @@ use Rattle.bound_log.specs.Text.{gaps_line}
 use Rattle.bound_log.proofs.Again.{by_test, words_again, words_lack}
 use Rattle.bound_log.proofs.Only.{err-ok}
 use Rattle.bound_log.proofs.Whole.{fed_first}
-use Rattle.track_lemmas.specs.declared.lemma.TrackLemma.{TrackLemma}
+use Rattle.track_ways.specs.declared.lemma.TrackLemma.{TrackLemma}
 use Rattle.track_log.specs.declared.certificate.TrackCertificate.{TrackCertificate}
 use Rattle.track_log.specs.Fits.{CertificateFits, LemmaFits}
 use Rattle.track_log.specs.Line.{count_in, gaps_in, lemma_in}

@@ -15,7 +15,7 @@ use Rattle.log_lines.proofs.Splits.{IsAbove, above_more, fed}
 use Rattle.bound_log.specs.Text.{counts_text, end_text, gaps_line}
 use Rattle.bound_log.proofs.Again.{by_test}
 use Rattle.bound_log.proofs.Spelled.{bound, cons_same, is_provided}
-use Rattle.track_lemmas.specs.declared.lemma.TrackLemma.{TrackLemma}
+use Rattle.track_ways.specs.declared.lemma.TrackLemma.{TrackLemma}
 use Rattle.track_log.specs.Fits.{LemmaFits}
 use Rattle.track_log.specs.Line.{count_in, fields_in, gaps_in, lemma_in, number_after, state_in, tracks_in}
 use Rattle.track_log.specs.Text.{lemma_line, state_text, tracks_line, tracks_text}

@@ -4,7 +4,7 @@ use Rattle.row_state.specs.declared.kind.Kinds.{Kinds}
 use Rattle.row_state.specs.Start.{IsState}
 use Rattle.trail_log.specs.Order.{increases}
 use Rattle.track_ways.specs.declared.track.NetTrack.{NetTrack}
-use Rattle.track_lemmas.specs.declared.lemma.TrackLemma.{TrackLemma}
+use Rattle.track_ways.specs.declared.lemma.TrackLemma.{TrackLemma}
 use Rattle.track_log.specs.declared.certificate.TrackCertificate.{TrackCertificate}
 use Rattle.track_log.specs.Line.{track_rank}
 

@@ -8,7 +8,7 @@ use Rattle.bound_log.specs.Line.{◌>>=◌, end_in, provided}
 use Rattle.trail_log.specs.Listed.{list_in, net_in}
 use Rattle.trail_log.specs.Order.{increases}
 use Rattle.track_ways.specs.declared.track.NetTrack.{NetTrack}
-use Rattle.track_lemmas.specs.declared.lemma.TrackLemma.{TrackLemma}
+use Rattle.track_ways.specs.declared.lemma.TrackLemma.{TrackLemma}
 
 -- the number after a word, where there is no more
 abbrev pub number_after : List ℕ → ℕ → List (List ℕ) → Option ℕ

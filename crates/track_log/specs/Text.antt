@@ -4,7 +4,7 @@ use Rattle.row_state.specs.declared.state.State.{State}
 use Rattle.bound_log.specs.Text.{counts_text, end_text, gaps_line, last_line}
 use Rattle.trail_log.specs.Spelling.{list_text}
 use Rattle.track_ways.specs.declared.track.NetTrack.{NetTrack}
-use Rattle.track_lemmas.specs.declared.lemma.TrackLemma.{TrackLemma}
+use Rattle.track_ways.specs.declared.lemma.TrackLemma.{TrackLemma}
 use Rattle.track_log.specs.declared.certificate.TrackCertificate.{TrackCertificate}
 
 -- the first line, without its line feed

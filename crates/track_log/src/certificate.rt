@@ -1,4 +1,4 @@
-use track_lemmas::TrackLemmas;
+use track_ways::TrackLemmas;
 
 /// The most tracks that the text of a certificate can hold: one for each net.
 pub const MOST_TRACKS: u32 = 256;

@@ -10,7 +10,7 @@ use cell_num::NoMemory;
 use log_lines::{few_parts, is_word, number_below};
 use row_state::Kinds;
 use std::alloc::Global;
-use track_lemmas::TrackLemma;
+use track_ways::TrackLemma;
 
 fn number_after(front: &[u8], limit: u32, words: &[&[u8]]) -> Option<u32>
     requires { limit ≤ 1000 }

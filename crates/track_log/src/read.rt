@@ -14,7 +14,7 @@ use cell_num::{MOST_BYTES, Name};
 use log_lines::{first_line, is_named, is_word};
 use row_state::Kinds;
 use std::alloc::Global;
-use track_lemmas::TrackLemmas;
+use track_ways::TrackLemmas;
 
 // The lemmas up to the line `end`, the last: else the first fault.
 #[tactic(auto, using(crate::proofs::Fronts::lemmas_cut, crate::proofs::Fronts::lemmas_done, crate::proofs::Fronts::lemmas_open, crate::proofs::Fronts::lemmas_wrong, crate::proofs::Fronts::lemmas_more))]

@@ -13,7 +13,7 @@ use crate::state::put_state;
 use crate::tracks::put_net_tracks;
 use cell_num::{Bytes, Name, NoMemory, put_number};
 use std::alloc::Global;
-use track_lemmas::TrackLemma;
+use track_ways::TrackLemma;
 
 fn put_head(out: &mut Bytes, name: &Name) -> Result<(), NoMemory>
     ensures { OnOk result (out.new ≡ out.old ++ head_lines name.now) }

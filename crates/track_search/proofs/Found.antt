@@ -39,10 +39,10 @@ use Rattle.track_ways.proofs.Nets.{behind_among, end_among}
 use Rattle.track_ways.proofs.Path.{completes}
 use Rattle.track_ways.proofs.Steps.{step_all, step_only}
 use Rattle.track_ways.proofs.Whole.{again}
-use Rattle.track_lemmas.specs.declared.lemma.TrackLemma.{TrackLemma}
-use Rattle.track_lemmas.specs.Certificate.{AreJustified}
-use Rattle.track_lemmas.specs.Checked.{IsRefutedListed}
-use Rattle.track_lemmas.proofs.Sound.{Holds, lemmas_true, refuted_fails}
+use Rattle.track_ways.specs.declared.lemma.TrackLemma.{TrackLemma}
+use Rattle.track_ways.specs.Certificate.{AreJustified}
+use Rattle.track_ways.specs.Checked.{IsRefutedListed}
+use Rattle.track_ways.proofs.Sound.{Holds, lemmas_true, refuted_fails}
 use Rattle.track_check.specs.Steps.{StepFailsListed}
 use Rattle.track_search.specs.declared.ahead.Ahead.{Ahead}
 use Rattle.track_search.specs.First.{IsFirstRouted, IsRouted, RunsOn}

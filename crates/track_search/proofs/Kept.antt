@@ -1,34 +1,36 @@
 -- The lemmas that are kept of ways: their tracks in order, and why none follows from an earlier one.
-use Rattle.std.proofs.Common.{ℕ, Bool, true, not, ltb, ◌&&◌, ◌||◌, ◌≡◌, ◌<◌, ◌++◌, List, [], ◌∷◌, map, inl, inr, ap, subst, arith, All, Any, Contains}
-use Rattle.std.specs.List.{AllPairs, list_all}
+use Rattle.std.proofs.Common.{ℕ, Bool, true, not, ltb, ◌&&◌, ◌||◌, ◌≡◌, ◌+◌, ◌<◌, ◌≤◌, ◌++◌, List, [], ◌∷◌, length, get_or, take, map, inl, inr, ap, subst, arith, All, Any, Contains, length-append}
+use Rattle.std.specs.List.{AllPairs, list_all, range_with_len}
 use Rattle.std.proofs.lemmas.Bool.{and_parts, ltb-true}
-use Rattle.std.proofs.lemmas.List.Elements.{All-contains, Contains-append_cases}
+use Rattle.std.proofs.lemmas.List.{get_or_append_left, take-append-le}
+use Rattle.std.proofs.lemmas.List.Elements.{All-contains, All-nil, Contains-append_cases, Contains-append_left}
+use Rattle.cell_num.specs.declared.finger.Row.{Row}
 use Rattle.cell_num.specs.declared.net.NetNo.{NetNo}
 use Rattle.cell_num.specs.declared.net.Pins.{Pins}
 use Rattle.cell_num.proofs.In.{Image, Piece, in_flat, in_map}
-use Rattle.cell_num.proofs.Lists.{all_from_contains, all_imply, all_map, contains_one}
+use Rattle.cell_num.proofs.Lists.{all_from_contains, all_imply, all_map, all_one, contains_none, contains_one}
 use Rattle.cell_num.proofs.Pairs.{Some', any_at, pairs_append, pairs_map, some_from_any}
 use Rattle.row_state.specs.declared.kind.Kinds.{Kinds}
 use Rattle.row_state.specs.declared.state.State.{State}
 use Rattle.row_state.specs.declared.step.Step.{Step}
 use Rattle.row_state.specs.Start.{AreSomeKinds, IsState, columns_left}
 use Rattle.row_state.specs.Steps.{column_of, state_after}
-use Rattle.std.specs.List.{range_with_len}
 use Rattle.track_ways.specs.declared.line.Line.{Line}
 use Rattle.track_ways.specs.declared.track.NetTrack.{NetTrack}
 use Rattle.track_ways.specs.Lines.{is_ahead, is_open, is_rail, with_line}
 use Rattle.track_ways.specs.Paths.{lines_to}
-use Rattle.track_ways.specs.States.{is_behind, is_still_ahead}
+use Rattle.track_ways.specs.States.{is_behind, is_open_at, is_still_ahead}
 use Rattle.track_ways.specs.Tracks.{AreKeys}
 use Rattle.track_ways.specs.Ways.{are_apart, fills, goes_ways, line_test, line_ways, missing, net_of, nets_below, open_of, pass_ways}
 use Rattle.track_ways.proofs.Exact.{pass_at}
 use Rattle.track_ways.proofs.Nets.{behind_among}
 use Rattle.track_ways.proofs.Places.{kept}
-use Rattle.track_lemmas.specs.declared.lemma.TrackLemma.{TrackLemma}
-use Rattle.track_lemmas.specs.Checked.{CoversListed}
+use Rattle.track_ways.specs.declared.lemma.TrackLemma.{TrackLemma}
+use Rattle.track_ways.specs.Certificate.{AreJustified, IsJustified}
+use Rattle.track_ways.specs.Checked.{CoversListed}
 use Rattle.track_search.specs.InOrder.{in_order}
-use Rattle.track_search.specs.Kept.{AreNew, IsTrackBelow, IsWithin}
-use Rattle.track_search.specs.Visit.{AreBelow, AreFresh, AreWaysAt, GoOn, HasPart, kept_at}
+use Rattle.track_search.specs.Kept.{AreKept, AreNew, IsTrackBelow, IsWithin}
+use Rattle.track_search.specs.Visit.{AreBelow, AreFresh, AreWaysAt, GoOn, HasPart, IsOfOpen, kept_at}
 use Rattle.track_search.proofs.InOrder.{From, in_order_from, in_order_increases, in_order_to, range_below}
 
 pub part_of_part : (way part less : List NetTrack) → HasPart way part → HasPart part less → HasPart way less
@@ -47,17 +49,31 @@ open_low pins k s net some o =
     let low : i.of < k.nets = range_below k.nets i.of i.listed in
     subst (λ (n : NetNo). n.0 < k.nets) i.is low
 
-pub ways_in_order : (pins : Pins) (k : Kinds) (s : State) (ways : List (List NetTrack)) → AreSomeKinds k → AreWaysAt pins k s ways → All (λ way. AreSame way (in_order k.nets way)) ways
-ways_in_order pins k s ways some keys = all_imply (AreKeys pins (is_behind k s) (is_still_ahead k s)) (λ way. AreSame way (in_order k.nets way)) ways (λ way own. record {
+-- ways of the nets that are open
+pub of_open : (pins : Pins) (k : Kinds) (s : State) (ways : List (List NetTrack)) → AreWaysAt pins k s ways → All (IsOfOpen pins k s) ways
+of_open pins k s ways keys = all_imply (AreKeys pins (is_behind k s) (is_still_ahead k s)) (IsOfOpen pins k s) ways (λ way own. record { open' = own.open'; one = own.one }) keys
+
+-- no tracks are of open nets
+pub none_of_open : (pins : Pins) (k : Kinds) (s : State) → All (IsOfOpen pins k s) ([] ∷ [])
+none_of_open pins k s = all_one (IsOfOpen pins k s) [] (record {
+  open' = All-nil (λ (t : NetTrack). is_open_at pins k s t.net ≡ true);
+  one = λ t u at also e. absurd (contains_none t at);
+})
+
+pub none_below : (limit : ℕ) → All (AreBelow limit) ([] ∷ [])
+none_below limit = all_one (AreBelow limit) [] (All-nil (λ (t : NetTrack). t.track < limit))
+
+pub ways_in_order : (pins : Pins) (k : Kinds) (s : State) (ways : List (List NetTrack)) → AreSomeKinds k → All (IsOfOpen pins k s) ways → All (λ way. AreSame way (in_order k.nets way)) ways
+ways_in_order pins k s ways some open' = all_imply (IsOfOpen pins k s) (λ way. AreSame way (in_order k.nets way)) ways (λ way own. record {
   to = all_from_contains (Contains way) (in_order k.nets way) (λ t there. (in_order_from k.nets way t there).there);
-  from = all_from_contains (Contains (in_order k.nets way)) way (λ t there. in_order_to k.nets way t own.one (open_low pins k s t.net some (All-contains (λ (t : NetTrack). is_open pins (is_behind k s) (is_still_ahead k s) t.net ≡ true) way t own.open' there)) there);
-}) keys
+  from = all_from_contains (Contains (in_order k.nets way)) way (λ t there. in_order_to k.nets way t own.one (open_low pins k s t.net some (All-contains (λ (t : NetTrack). is_open_at pins k s t.net ≡ true) way t own.open' there)) there);
+}) open'
 
 -- the lemmas that are kept of some ways are in range
-pub kept_within : (k : Kinds) (limit : ℕ) (s : State) (gaps : ℕ) (ways : List (List NetTrack)) → IsState k s → All (AreBelow limit) ways → All (IsWithin k limit gaps) (map (kept_at k.nets s gaps) ways)
-kept_within k limit s gaps ways state below = all_map (AreBelow limit) (IsWithin k limit gaps) (kept_at k.nets s gaps) ways (λ way low. record {
+pub kept_within : (k : Kinds) (limit most : ℕ) (s : State) (gaps : ℕ) (ways : List (List NetTrack)) → gaps ≤ most → IsState k s → All (AreBelow limit) ways → All (IsWithin k limit most) (map (kept_at k.nets s gaps) ways)
+kept_within k limit most s gaps ways le state below = all_map (AreBelow limit) (IsWithin k limit most) (kept_at k.nets s gaps) ways (λ way low. record {
   state = state;
-  gaps = omega arith;
+  gaps = le;
   tracks = all_from_contains (IsTrackBelow k.nets limit) (in_order k.nets way) (λ t there.
       let from : From k.nets way t = in_order_from k.nets way t there in
       record { net = from.low; track = All-contains (λ (t : NetTrack). t.track < limit) way t low from.there });
@@ -96,6 +112,28 @@ kept_new k s gaps ways lemmas same own fresh = pairs_append Differ lemmas (map (
         subst (Differ earlier) i.is (λ covers.
         All-contains (λ way. Any (CoversListed s gaps way) lemmas → ⊥) ways i.of fresh.open' i.listed
         (any_at (CoversListed s gaps i.of) lemmas earlier there (record { state = covers.state; enough = covers.enough; tracks = part_of_part i.of (in_order k.nets i.of) earlier.tracks (All-contains (λ way. AreSame way (in_order k.nets way)) ways i.of same i.listed).to covers.tracks })))))
+
+-- ---- the first of the lemmas that are kept
+
+all_front : {X : Type 0} (P : X → Type 0) (xs ys : List X) → All P (xs ++ ys) → All P xs
+all_front P xs ys h = all_from_contains P xs (λ x there. All-contains P (xs ++ ys) x h (Contains-append_left xs ys x there))
+
+pairs_front : {X : Type 0} (R : X → X → Type 0) (xs ys : List X) → AllPairs R (xs ++ ys) → AllPairs R xs
+pairs_front {X} R xs ys h i j d less short =
+    subst (λ (a : X). R a (get_or xs j d)) (get_or_append_left xs ys d i (omega (arith, less, short)))
+    (subst (λ (b : X). R (get_or (xs ++ ys) i d) b) (get_or_append_left xs ys d j short) (h i j d less (omega (arith, short, length-append xs ys))))
+
+justified_front : (value : Row → State → Kinds → ℕ) (pins : Pins) (limit : ℕ) (k : Kinds) (xs ys : List TrackLemma) → AreJustified value pins limit k (xs ++ ys) → AreJustified value pins limit k xs
+justified_front value pins limit k xs ys h i d within =
+    subst (λ (z : TrackLemma). IsJustified value pins limit k (take i xs) z) (get_or_append_left xs ys d i within)
+    (subst (λ zs. IsJustified value pins limit k zs (get_or (xs ++ ys) i d)) (take-append-le i xs ys (omega (arith, within))) (h i d (omega (arith, within, length-append xs ys))))
+
+pub kept_front : (value : Row → State → Kinds → ℕ) (pins : Pins) (limit : ℕ) (k : Kinds) (gaps : ℕ) (xs ys : List TrackLemma) → AreKept value pins limit k gaps (xs ++ ys) → AreKept value pins limit k gaps xs
+kept_front value pins limit k gaps xs ys h = record {
+  justified = justified_front value pins limit k xs ys h.justified;
+  own = pairs_front Differ xs ys h.own;
+  within = all_front (IsWithin k limit gaps) xs ys h.within;
+}
 
 -- ---- the tracks after a column are below the limit
 

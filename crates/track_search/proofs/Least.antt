@@ -27,9 +27,9 @@ use Rattle.track_ways.specs.declared.track.NetTrack.{NetTrack}
 use Rattle.track_ways.proofs.Failing.{found, weaker}
 use Rattle.track_ways.proofs.Path.{StepsOf, steps_of}
 use Rattle.track_ways.proofs.Whole.{legal_path}
-use Rattle.track_lemmas.specs.declared.lemma.TrackLemma.{TrackLemma}
-use Rattle.track_lemmas.specs.Certificate.{Certifies, CoversAll, IsTrueOf}
-use Rattle.track_lemmas.proofs.Sound.{Holds, certified, lemmas_true}
+use Rattle.track_ways.specs.declared.lemma.TrackLemma.{TrackLemma}
+use Rattle.track_ways.specs.Certificate.{Certifies, CoversAll, IsTrueOf}
+use Rattle.track_ways.proofs.Sound.{Holds, certified, lemmas_true}
 use Rattle.track_search.specs.declared.fewest.Fewest.{Fewest}
 use Rattle.track_search.specs.declared.fewest.Fewest.TheVariants as fewest
 use Rattle.track_search.specs.declared.limit.Limit.{Limit}

@@ -1,11 +1,13 @@
+pub mod Bare
 pub mod Found
 pub mod Grown
 pub mod InOrder
 pub mod Kept
 pub mod Least
+pub mod Legal
 pub mod Lists
-pub mod Noted
 pub mod Refuted
 pub mod Spent
 pub mod Starts
 pub mod Ways
+pub mod LowestFound

@@ -11,8 +11,8 @@ use Rattle.row_state.specs.declared.step.Step.{Step}
 use Rattle.row_state.specs.declared.state.State.{State}
 use Rattle.track_ways.specs.Ways.{goes_ways}
 use Rattle.track_ways.specs.declared.track.NetTrack.{NetTrack}
-use Rattle.track_lemmas.specs.declared.lemma.TrackLemma.{TrackLemma}
-use Rattle.track_lemmas.specs.Checked.{CoversListed}
+use Rattle.track_ways.specs.declared.lemma.TrackLemma.{TrackLemma}
+use Rattle.track_ways.specs.Checked.{CoversListed}
 use Rattle.track_search.specs.Visit.{AreAdded, AreFresh, AreTaken, GoOn, HasPart, IsTaken}
 
 no_items : {X : Type 0} (xs : List X) → length xs ≡ 0 → xs ≡ []

@@ -1,5 +1,5 @@
 -- What lemmas say of ways stays said when there are more of them, and is true.
-use Rattle.std.proofs.Common.{ℕ, true, ◌≡◌, ◌++◌, List, [], ◌∷◌, length, get_or, take, map, inl, inr, refl, sym, subst, arith, Some, slice_get, All, Any, Contains, length-append, append_assoc, append-nil}
+use Rattle.std.proofs.Common.{ℕ, true, ◌≡◌, ◌++◌, List, [], ◌∷◌, length, get_or, take, map, inl, inr, refl, sym, subst, arith, All, Any, Contains, length-append, append_assoc, append-nil}
 use Rattle.std.proofs.lemmas.Bool.{cases_lt}
 use Rattle.std.proofs.Math.Seq.{get_or-append_seam, take-append_seam}
 use Rattle.std.proofs.lemmas.List.{take-append-le, get_or_append_left}
@@ -7,8 +7,8 @@ use Rattle.std.proofs.lemmas.List.Elements.{All-contains, All-head, All-tail, Al
 use Rattle.cell_num.specs.declared.finger.Row.{Row}
 use Rattle.cell_num.specs.declared.net.NetNo.{NetNo}
 use Rattle.cell_num.specs.declared.net.Pins.{Pins}
-use Rattle.cell_num.proofs.Lists.{all_from_contains, all_imply, contains_get}
-use Rattle.cell_num.proofs.Pairs.{Some', any_append_left, any_at, any_from_some, some_from_any}
+use Rattle.cell_num.proofs.Lists.{all_from_contains, all_imply, all_one, contains_none}
+use Rattle.cell_num.proofs.Pairs.{Some', any_append_left, any_at, any_from_some, pairs_one, some_from_any}
 use Rattle.row_state.specs.declared.kind.Kinds.{Kinds}
 use Rattle.row_state.specs.declared.state.State.{State}
 use Rattle.row_state.specs.declared.step.Step.{Step}
@@ -18,13 +18,13 @@ use Rattle.track_ways.specs.declared.track.NetTrack.{NetTrack}
 use Rattle.track_ways.specs.Tracks.{AreTracksOf}
 use Rattle.track_ways.specs.States.{is_open_at}
 use Rattle.track_ways.specs.Ways.{goes_ways}
-use Rattle.track_lemmas.specs.declared.lemma.TrackLemma.{TrackLemma}
-use Rattle.track_lemmas.specs.Certificate.{AreJustified, Covers, IsJustified, IsRefuted, IsValid}
-use Rattle.track_lemmas.specs.Checked.{CoversListed, IsJustifiedListed, IsRefutedListed}
-use Rattle.track_lemmas.proofs.Checked.{justified_decided}
+use Rattle.track_ways.specs.declared.lemma.TrackLemma.{TrackLemma}
+use Rattle.track_ways.specs.Certificate.{AreJustified, Covers, CoversAll, IsJustified, IsRefuted, IsValid}
+use Rattle.track_ways.specs.Checked.{CoversListed, IsJustifiedListed, IsRefutedListed}
+use Rattle.track_ways.proofs.Checked.{justified_decided}
 use Rattle.track_check.specs.Steps.{StepFailsListed}
 use Rattle.track_search.specs.InOrder.{in_order}
-use Rattle.track_search.specs.Visit.{kept_at, lemma_at}
+use Rattle.track_search.specs.Visit.{AreCovered, AreFresh, HasPart, kept_at, lemma_at}
 use Rattle.track_search.proofs.Kept.{AreSame}
 
 refuted_more : (value : Row → State → Kinds → ℕ) (k : Kinds) (xs ys more : List TrackLemma) (s : State) (gaps : ℕ) → ys ≡ xs ++ more → (way : List NetTrack) → IsRefutedListed value k xs s gaps way → IsRefutedListed value k ys s gaps way
@@ -100,8 +100,26 @@ kept_all value pins limit k some s gaps (way ∷ ways) xs all same each =
     (kept_all value pins limit k some s gaps ways (xs ++ kept_at k.nets s gaps way ∷ []) one (All-tail (λ way. AreSame way (in_order k.nets way)) way ways same)
     (All-weaker (λ way. IsJustifiedListed value pins limit k xs (lemma_at s gaps way)) (λ w. IsJustifiedListed value pins limit k (xs ++ kept_at k.nets s gaps way ∷ []) (lemma_at s gaps w)) (λ w h. justified_more value pins limit k xs (xs ++ kept_at k.nets s gaps way ∷ []) (kept_at k.nets s gaps way ∷ []) (lemma_at s gaps w) refl h) ways rest))
 
-pub covered_at : (s : State) (gaps : ℕ) (way : List NetTrack) (lemmas : List TrackLemma) (at : ℕ) (lemma : TrackLemma) → slice_get lemmas at ≡ Some lemma → CoversListed s gaps way lemma → Any (CoversListed s gaps way) lemmas
-covered_at s gaps way lemmas at lemma is covers = any_at (CoversListed s gaps way) lemmas lemma (contains_get lemmas at lemma is) covers
+-- ---- lemmas without tracks
+
+no_tracks_left : (tracks : List NetTrack) → All (Contains []) tracks → tracks ≡ []
+no_tracks_left [] h = refl
+no_tracks_left (t ∷ ts) h = absurd (contains_none t (All-head (Contains []) t ts h))
+
+-- a lemma that speaks of no tracks has none
+pub covers_all : (lemmas : List TrackLemma) (s : State) (gaps : ℕ) → Any (CoversListed s gaps []) lemmas → Any (CoversAll s gaps) lemmas
+covers_all lemmas s gaps any =
+    let found : Some' (CoversListed s gaps []) lemmas = some_from_any (CoversListed s gaps []) lemmas any in
+    any_at (CoversAll s gaps) lemmas found.it found.there (record { state = found.holds.state; enough = found.holds.enough; any = no_tracks_left found.it.tracks found.holds.tracks })
+
+pub one_covered : (lemmas : List TrackLemma) (s : State) (gaps : ℕ) → AreCovered lemmas s gaps ([] ∷ []) → Any (CoversAll s gaps) lemmas
+one_covered lemmas s gaps all = covers_all lemmas s gaps (All-head (λ way. Any (CoversListed s gaps way) lemmas) [] [] all)
+
+pub none_fresh : (lemmas : List TrackLemma) (s : State) (gaps : ℕ) → (Any (CoversAll s gaps) lemmas → ⊥) → AreFresh lemmas s gaps ([] ∷ [])
+none_fresh lemmas s gaps not' = record {
+  open' = all_one (λ way. Any (CoversListed s gaps way) lemmas → ⊥) [] (λ any. not' (covers_all lemmas s gaps any));
+  apart = pairs_one (λ a b. HasPart b a → ⊥) [];
+}
 
 -- the tracks of a way that a lemma speaks of
 pub refuted_listed : (value : Row → State → Kinds → ℕ) (k : Kinds) (lemmas : List TrackLemma) (s : State) (gaps : ℕ) (way : List NetTrack) (next : NetNo → ℕ) → AreTracksOf way next → IsRefutedListed value k lemmas s gaps way → IsRefuted value k lemmas s gaps next

@@ -1,5 +1,5 @@
--- What the search from the start shows of its lemmas and of its visits, limit by limit.
-use Rattle.std.proofs.Common.{ℕ, ◌≡◌, ◌+◌, ◌<◌, ◌≤◌, ◌++◌, ◌∙◌, List, [], ◌∷◌, length, sum_by, refl, sym, ap, subst, arith, All, Any}
+-- What the search from the start shows of its lemmas, limit by limit.
+use Rattle.std.proofs.Common.{ℕ, ◌≡◌, ◌+◌, ◌<◌, ◌≤◌, List, [], ◌∷◌, length, slice_index_or, sum_by, refl, sym, ap, subst, arith, All, Any}
 use Rattle.std.proofs.lemmas.List.Elements.{All-nil}
 use Rattle.std.proofs.lemmas.List.Sums.{sum_by-cons}
 use Rattle.cell_num.specs.declared.finger.Row.{Row}
@@ -9,12 +9,14 @@ use Rattle.cell_num.proofs.Pairs.{Some', pairs_none, pairs_one, some_from_any}
 use Rattle.row_state.specs.declared.kind.Kinds.{Kinds}
 use Rattle.row_state.specs.declared.state.State.{State}
 use Rattle.track_ways.specs.declared.track.NetTrack.{NetTrack}
-use Rattle.track_lemmas.specs.declared.lemma.TrackLemma.{TrackLemma}
-use Rattle.track_lemmas.specs.Checked.{CoversListed}
+use Rattle.track_ways.specs.declared.lemma.TrackLemma.{TrackLemma}
+use Rattle.track_ways.specs.Checked.{CoversListed}
 use Rattle.track_search.specs.declared.progress.Progress.{Progress}
-use Rattle.track_search.specs.Kept.{AreKept, AreKeptBelow, AreNew, IsSpent, IsSpentBelow, IsTrackBelow, IsWithin, columns_in}
+use Rattle.track_search.specs.Bare.{IsNoted}
+use Rattle.track_search.specs.Kept.{AreKept, AreKeptBelow, AreNew, IsKeptWithin, IsSpent, IsSpentBelow, IsTrackBelow, IsWithin}
 use Rattle.track_search.proofs.Kept.{Differ}
-use Rattle.track_search.specs.Visit.{AreBelow, AreCounted, AreFresh, HasPart, IsCut, IsGrown}
+use Rattle.track_search.specs.Visit.{AreBelow, AreFresh, HasPart, IsKept}
+use Rattle.track_search.proofs.Starts.{none_justified}
 
 -- ---- at the start
 
@@ -32,47 +34,57 @@ start_fresh lemmas s gaps ways none one = subst (AreFresh lemmas s gaps) (sym on
 pub start_below : (limit : ℕ) (ways : List (List NetTrack)) → ways ≡ [] ∷ [] → All (AreBelow limit) ways
 start_below limit ways one = subst (All (AreBelow limit)) (sym one) (all_one (AreBelow limit) [] (All-nil (λ (t : NetTrack). t.track < limit)))
 
-pub start_kept : (value : Row → State → Kinds → ℕ) (pins : Pins) (limit : ℕ) (k : Kinds) (budget columns gaps : ℕ) (p q : Progress) → p.lemmas ≡ [] → IsGrown value pins limit k budget columns gaps p q → AreKept value pins limit k gaps q.lemmas
-start_kept value pins limit k budget columns gaps p q none g =
-    let all : q.lemmas ≡ g.more = g.is ∙ ap (λ xs. xs ++ g.more) none in
-    record { justified = g.justified; own = g.own; within = subst (All (IsWithin k limit gaps)) (sym all) g.within }
-
-pub start_counted : (p q : Progress) → p.lemmas ≡ [] → AreCounted p q → q.visits ≤ p.visits + length q.lemmas
-start_counted p q none h = omega (arith, h, ap length none)
-
-pub start_spent : (value : Row → State → Kinds → ℕ) (pins : Pins) (limit : ℕ) (k : Kinds) (budget columns gaps : ℕ) (p q : Progress) → p.lemmas ≡ [] → columns ≡ columns_in k → IsCut value pins limit k budget columns gaps p q → IsSpentBelow value pins limit k gaps p.visits budget
-start_spent value pins limit k budget columns gaps p q none all cut = record {
-  lemmas = q.lemmas;
-  kept = start_kept value pins limit k budget (columns + 1) gaps p q none cut.grown;
-  many = omega (arith, cut.many, ap length none, all);
+-- nothing is kept there
+pub start_kept : (value : Row → State → Kinds → ℕ) (pins : Pins) (limit : ℕ) (k : Kinds) (gaps budget : ℕ) (p : Progress) → p.lemmas ≡ [] → IsNoted k p → IsKept value pins limit k gaps budget p
+start_kept value pins limit k gaps budget p none noted = record {
+  kept = record {
+    justified = none_justified value pins limit k p.lemmas none;
+    own = none_new p.lemmas none;
+    within = subst (All (IsWithin k limit gaps)) (sym none) (All-nil (IsWithin k limit gaps));
+  };
+  few = omega (arith, ap length none);
+  noted = noted;
 }
 
 -- ---- from limit to limit
 
--- lists of lemmas on the limits below one, at least one for each visit so far
-pub record AreTried (value : Row → State → Kinds → ℕ) (pins : Pins) (k : Kinds) (gaps limit visits : ℕ) : Type 0 where
+-- lists of lemmas on the limits below one, these the last ones; that many fewer than the budget may follow
+pub record AreTried
+    (value : Row → State → Kinds → ℕ) (pins : Pins) (k : Kinds) (gaps limit left budget : ℕ) (lemmas : List TrackLemma)
+    : Type 0 where
   pub lists : List (List TrackLemma)
   pub limits : length lists ≡ limit
   pub kept : AreKeptBelow value pins k gaps lists
-  pub many : visits ≤ sum_by length lists
+  pub used : left + sum_by length lists ≡ budget
+  pub last : slice_index_or lists 0 [] ≡ lemmas
 
-pub none_tried : (value : Row → State → Kinds → ℕ) (pins : Pins) (k : Kinds) (gaps : ℕ) → AreTried value pins k gaps 0 0
-none_tried value pins k gaps = record { lists = []; limits = refl; kept = tt; many = omega arith }
+pub none_tried : (value : Row → State → Kinds → ℕ) (pins : Pins) (k : Kinds) (gaps budget : ℕ) (lemmas : List TrackLemma) → lemmas ≡ [] → AreTried value pins k gaps 0 budget budget lemmas
+none_tried value pins k gaps budget lemmas none = record { lists = []; limits = refl; kept = tt; used = omega arith; last = sym none }
 
-pub one_tried : (value : Row → State → Kinds → ℕ) (pins : Pins) (k : Kinds) (gaps limit before after : ℕ) (lemmas : List TrackLemma) → AreTried value pins k gaps limit before → AreKept value pins limit k gaps lemmas → after ≤ before + length lemmas → AreTried value pins k gaps (limit + 1) after
-one_tried value pins k gaps limit before after lemmas h kept few = record {
+pub one_tried : (value : Row → State → Kinds → ℕ) (pins : Pins) (k : Kinds) (gaps limit before after budget : ℕ) (old lemmas : List TrackLemma) → AreTried value pins k gaps limit before budget old → AreKept value pins limit k gaps lemmas → after + length lemmas ≡ before → AreTried value pins k gaps (limit + 1) after budget lemmas
+one_tried value pins k gaps limit before after budget old lemmas h kept left = record {
   lists = lemmas ∷ h.lists;
   limits = omega (arith, h.limits);
   kept = (subst (λ n. AreKept value pins n k gaps lemmas) (sym h.limits) kept, h.kept);
-  many = omega (arith, few, h.many, sum_by-cons (λ (ls : List TrackLemma). length ls) lemmas h.lists);
+  used = omega (arith, left, h.used, sum_by-cons (λ (ls : List TrackLemma). length ls) lemmas h.lists);
+  last = refl;
 }
 
-pub tried_spent : (value : Row → State → Kinds → ℕ) (pins : Pins) (k : Kinds) (gaps limit before budget : ℕ) → AreTried value pins k gaps limit before → IsSpentBelow value pins limit k gaps before budget → IsSpent value pins k gaps limit budget
-tried_spent value pins k gaps limit before budget h spent = record {
+pub tried_spent : (value : Row → State → Kinds → ℕ) (pins : Pins) (k : Kinds) (gaps limit left budget : ℕ) (lemmas : List TrackLemma) → AreTried value pins k gaps limit left budget lemmas → IsSpentBelow value pins limit k gaps left → IsSpent value pins k gaps limit budget
+tried_spent value pins k gaps limit left budget lemmas h spent = record {
   lists = spent.lemmas ∷ h.lists;
   limits = omega (arith, h.limits);
   kept = (subst (λ n. AreKept value pins n k gaps spent.lemmas) (sym h.limits) spent.kept, h.kept);
-  many = omega (arith, spent.many, h.many, sum_by-cons (λ (ls : List TrackLemma). length ls) spent.lemmas h.lists);
+  more = omega (arith, spent.more, h.used, sum_by-cons (λ (ls : List TrackLemma). length ls) spent.lemmas h.lists);
+}
+
+pub tried_kept : (value : Row → State → Kinds → ℕ) (pins : Pins) (k : Kinds) (gaps limit left budget : ℕ) (lemmas : List TrackLemma) → AreTried value pins k gaps limit left budget lemmas → IsKeptWithin value pins k gaps limit budget lemmas
+tried_kept value pins k gaps limit left budget lemmas h = record {
+  lists = h.lists;
+  limits = h.limits;
+  kept = h.kept;
+  few = omega (arith, h.used);
+  last = h.last;
 }
 
 -- tracks below a limit are below the most

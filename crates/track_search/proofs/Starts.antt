@@ -1,11 +1,10 @@
 -- What the search from the start shows of rows.
-use Rattle.std.proofs.Common.{ℕ, ◌≡◌, ◌≤◌, ◌⊎◌, List, [], ◌∷◌, length, map, refl, sym, ap, subst, arith, All, Any, Contains}
-use Rattle.std.proofs.lemmas.List.Elements.{All-head, All-nil}
+use Rattle.std.proofs.Common.{ℕ, ◌≡◌, ◌≤◌, ◌⊎◌, List, [], ◌∷◌, length, map, sym, ap, subst, arith, All}
+use Rattle.std.proofs.lemmas.List.Elements.{All-nil}
 use Rattle.cell_num.specs.declared.finger.Row.{Row}
 use Rattle.cell_num.specs.declared.net.NetNo.{NetNo}
 use Rattle.cell_num.specs.declared.net.Pins.{Pins}
-use Rattle.cell_num.proofs.Lists.{contains_here, contains_none}
-use Rattle.cell_num.proofs.Pairs.{Some', any_from_some, some_from_any}
+use Rattle.cell_num.proofs.Lists.{contains_here}
 use Rattle.row_model.specs.declared.column.Column.{Column}
 use Rattle.row_model.specs.Gaps.{gaps_of}
 use Rattle.row_place.specs.Places.{placement_of}
@@ -28,12 +27,12 @@ use Rattle.track_ways.proofs.Legal.{legal_within}
 use Rattle.track_ways.proofs.Placed.{lines_placed}
 use Rattle.track_ways.proofs.Path.{StepsOf, completes, steps_of}
 use Rattle.track_ways.proofs.Whole.{path_of, track_of_path}
-use Rattle.track_lemmas.specs.declared.lemma.TrackLemma.{TrackLemma}
-use Rattle.track_lemmas.specs.Certificate.{AreJustified, Certifies, CoversAll}
-use Rattle.track_lemmas.specs.Checked.{CoversListed}
+use Rattle.track_ways.specs.declared.lemma.TrackLemma.{TrackLemma}
+use Rattle.track_ways.specs.Certificate.{AreJustified, Certifies}
 use Rattle.track_search.specs.First.{IsFirstRouted, IsRouted}
 use Rattle.track_search.specs.Limit.{HasTracks, IsFirstRow}
 use Rattle.track_search.specs.Visit.{AreCovered, AreWaysAt}
+use Rattle.track_search.proofs.Refuted.{one_covered}
 use Rattle.track_search.proofs.Ways.{start_way}
 
 -- a legal routing of an arrangement goes along its steps
@@ -77,19 +76,11 @@ first_row pins limit k s gaps ways steps row some start one is given =
           (h.first steps'.steps (routed_start pins limit k gaps other r steps' some short few legal le));
     })
 
-no_tracks_left : (tracks : List NetTrack) → All (Contains []) tracks → tracks ≡ []
-no_tracks_left [] h = refl
-no_tracks_left (t ∷ ts) h = absurd (contains_none t (All-head (Contains []) t ts h))
-
 -- lemmas of which one speaks of the start without tracks are a certificate
 pub certificate : (value : Row → State → Kinds → ℕ) (pins : Pins) (limit : ℕ) (k : Kinds) (s : State) (gaps : ℕ) (ways : List (List NetTrack)) (lemmas : List TrackLemma) → s ≡ start_of k → ways ≡ [] ∷ [] → AreJustified value pins limit k lemmas → AreCovered lemmas s gaps ways → Certifies value pins limit k gaps lemmas
 certificate value pins limit k s gaps ways lemmas start one justified covered =
     let all : AreCovered lemmas (start_of k) gaps ([] ∷ []) = subst (AreCovered lemmas (start_of k) gaps) one (subst (λ z. AreCovered lemmas z gaps ways) start covered) in
-    let found : Some' (CoversListed (start_of k) gaps []) lemmas = some_from_any (CoversListed (start_of k) gaps []) lemmas (All-head (λ way. Any (CoversListed (start_of k) gaps way) lemmas) [] [] all) in
-    record {
-      justified = justified;
-      whole = any_from_some (CoversAll (start_of k) gaps) lemmas (record { it = found.it; there = found.there; holds = record { state = found.holds.state; enough = found.holds.enough; any = no_tracks_left found.it.tracks found.holds.tracks } });
-    }
+    record { justified = justified; whole = one_covered lemmas (start_of k) gaps all }
 
 pub start_ways : (pins : Pins) (k : Kinds) (s : State) (ways : List (List NetTrack)) → s ≡ start_of k → ways ≡ [] ∷ [] → AreWaysAt pins k s ways
 start_ways pins k s ways start one = subst (AreWaysAt pins k s) (sym one) (subst (λ z. AreWaysAt pins k z ([] ∷ [])) (sym start) (start_way pins k))

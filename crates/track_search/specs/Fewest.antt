@@ -16,8 +16,8 @@ use Rattle.row_state.specs.declared.kind.Kinds.{Kinds}
 use Rattle.row_state.specs.declared.state.State.{State}
 use Rattle.row_state.specs.Start.{AreKinds}
 use Rattle.track_ways.specs.Channel.{AreTrunks}
-use Rattle.track_lemmas.specs.declared.lemma.TrackLemma.{TrackLemma}
-use Rattle.track_lemmas.specs.Certificate.{Certifies}
+use Rattle.track_ways.specs.declared.lemma.TrackLemma.{TrackLemma}
+use Rattle.track_ways.specs.Certificate.{Certifies}
 use Rattle.track_search.specs.declared.fewest.Fewest.{Fewest}
 use Rattle.track_search.specs.declared.fewest.Fewest.TheVariants as ended
 use Rattle.track_search.specs.Kept.{IsSpent}
@@ -72,7 +72,7 @@ abbrev pub AreAtMost : ℕ → Fewest → Type 0
 AreAtMost most (ended.Found row tracks lemmas) = tracks < most
 AreAtMost most (ended.Open proved lemmas) = proved ≤ most
 
--- no row has tracks below the most, or the visits are spent
+-- no row has tracks below the most, or the budget is spent
 abbrev pub IsOpen : (Row → State → Kinds → ℕ) → Pins → Kinds → ℕ → ℕ → ℕ → Fewest → Type 0
 IsOpen value pins k gaps most budget (ended.Found row tracks lemmas) = Unit {0}
 IsOpen value pins k gaps most budget (ended.Open proved lemmas) =

@@ -1,17 +1,17 @@
 -- The lemmas that a search keeps, and why its budget is spent.
-use Rattle.std.specs.Prelude.{ℕ, ◌≡◌, ◌+◌, ◌<◌, ◌≤◌, List, [], ◌∷◌, All, IsTrue, length, sum_by}
+use Rattle.std.specs.Prelude.{ℕ, ◌≡◌, ◌+◌, ◌<◌, ◌≤◌, List, [], ◌∷◌, All, IsTrue, length, slice_index_or, sum_by}
 use Rattle.std.specs.List.{AllPairs}
 use Rattle.cell_num.specs.declared.finger.Row.{Row}
 use Rattle.cell_num.specs.declared.net.Pins.{Pins}
 use Rattle.row_state.specs.declared.kind.Kinds.{Kinds}
 use Rattle.row_state.specs.declared.state.State.{State}
-use Rattle.row_state.specs.Start.{IsState, columns_left, start_of}
+use Rattle.row_state.specs.Start.{IsState}
 use Rattle.trail_log.specs.Order.{increases}
 use Rattle.track_log.specs.Line.{track_rank}
 use Rattle.track_ways.specs.declared.track.NetTrack.{NetTrack}
-use Rattle.track_lemmas.specs.declared.lemma.TrackLemma.{TrackLemma}
-use Rattle.track_lemmas.specs.Certificate.{AreJustified}
-use Rattle.track_lemmas.specs.Checked.{CoversListed}
+use Rattle.track_ways.specs.declared.lemma.TrackLemma.{TrackLemma}
+use Rattle.track_ways.specs.Certificate.{AreJustified}
+use Rattle.track_ways.specs.Checked.{CoversListed}
 
 -- a net of the kinds, on a track below the limit
 pub record IsTrackBelow (nets limit : ℕ) (t : NetTrack) : Type 0 where
@@ -38,17 +38,12 @@ pub record AreKept
   pub own : AreNew lemmas
   pub within : All (IsWithin k limit gaps) lemmas
 
--- how many columns the fingers need
-abbrev pub columns_in : Kinds → ℕ
-columns_in k = columns_left k (start_of k)
-
--- Why the visits below one limit are spent, where `before` were made before: there are as many lemmas as visits, but
--- for the columns of one row.
+-- Why the search below one limit is spent: it keeps more lemmas than the budget allows.
 pub record IsSpentBelow
-    (value : Row → State → Kinds → ℕ) (pins : Pins) (limit : ℕ) (k : Kinds) (gaps before budget : ℕ) : Type 0 where
+    (value : Row → State → Kinds → ℕ) (pins : Pins) (limit : ℕ) (k : Kinds) (gaps budget : ℕ) : Type 0 where
   pub lemmas : List TrackLemma
   pub kept : AreKept value pins limit k gaps lemmas
-  pub many : budget ≤ before + length lemmas + columns_in k
+  pub more : budget < length lemmas
 
 -- lists of lemmas on the limits from 0 on, the last one first
 abbrev pub AreKeptBelow : (Row → State → Kinds → ℕ) → Pins → Kinds → ℕ → List (List TrackLemma) → Type 0
@@ -56,11 +51,22 @@ AreKeptBelow value pins k gaps [] = Unit {0}
 AreKeptBelow value pins k gaps (lemmas ∷ lower) =
     AreKept value pins (length lower) k gaps lemmas × AreKeptBelow value pins k gaps lower
 
--- Why visits are spent below the limits from 0 to the one that was tried: there are as many lemmas as the budget has
--- visits, but for the columns of one row.
+-- These lemmas are kept on the last of the limits below the tracks, none where there is no limit. All that are kept on
+-- these limits are no more than the budget.
+pub record IsKeptWithin
+    (value : Row → State → Kinds → ℕ) (pins : Pins) (k : Kinds) (gaps tracks budget : ℕ) (lemmas : List TrackLemma)
+    : Type 0 where
+  pub lists : List (List TrackLemma)
+  pub limits : length lists ≡ tracks
+  pub kept : AreKeptBelow value pins k gaps lists
+  pub few : sum_by length lists ≤ budget
+  pub last : slice_index_or lists 0 [] ≡ lemmas
+
+-- Why the budget is spent below the limits from 0 to the one that was tried: all that are kept on these limits are more
+-- lemmas than it allows.
 pub record IsSpent
     (value : Row → State → Kinds → ℕ) (pins : Pins) (k : Kinds) (gaps tried budget : ℕ) : Type 0 where
   pub lists : List (List TrackLemma)
   pub limits : length lists ≡ tried + 1
   pub kept : AreKeptBelow value pins k gaps lists
-  pub many : budget ≤ sum_by length lists + columns_in k
+  pub more : budget < sum_by length lists

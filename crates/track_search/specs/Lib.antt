@@ -1,9 +1,10 @@
--- What contracts of public calls cite, and what these definitions stand on.
+-- What contracts of public calls cite, and what these definitions use.
 pub mod Fewest
 pub mod Kept
 pub mod Limit
+pub mod Lowest
 -- What inner contracts and proofs alone cite.
+pub mod Bare
 pub mod First
 pub mod InOrder
-pub mod Noted
 pub mod Visit

@@ -1,5 +1,5 @@
 -- What the search for a row with tracks below a limit ends with.
-use Rattle.std.specs.Prelude.{ℕ, ◌≡◌, ◌+◌, ◌≤◌, ◌<◌, ◌⊎◌, List, [], length}
+use Rattle.std.specs.Prelude.{ℕ, ◌≡◌, ◌≤◌, ◌<◌, ◌⊎◌, List, [], length}
 use Rattle.cell_num.specs.declared.finger.Fingers.{Fingers}
 use Rattle.cell_num.specs.declared.finger.Row.{Row}
 use Rattle.cell_num.specs.declared.net.NetNo.{NetNo}
@@ -18,7 +18,7 @@ use Rattle.row_state.specs.Start.{AreKinds}
 use Rattle.track_ways.specs.Channel.{AreLegalWithin, AreTrunks}
 use Rattle.track_ways.specs.Lines.{Fits, is_ahead}
 use Rattle.track_ways.specs.Rows.{lines_of_row}
-use Rattle.track_lemmas.specs.Certificate.{Certifies}
+use Rattle.track_ways.specs.Certificate.{Certifies}
 use Rattle.track_search.specs.declared.limit.Limit.{Limit}
 use Rattle.track_search.specs.declared.limit.Limit.TheVariants as ended
 use Rattle.track_search.specs.Kept.{AreKept, IsSpentBelow}
@@ -53,14 +53,10 @@ NeedsMoreTracks pins limit k gaps (ended.Refuted lemmas) =
     → IsLegal (placement_of row) pins r → limit < r.tracks
 NeedsMoreTracks pins limit k gaps _ = Unit {0}
 
--- No lemma of a certificate follows from an earlier one. Visits are spent for a reason, where `before` were made
--- before.
-abbrev pub HasReason : (Row → State → Kinds → ℕ) → Pins → ℕ → Kinds → ℕ → ℕ → ℕ → Limit → Type 0
-HasReason value pins limit k gaps before budget (ended.Found row) = Unit {0}
-HasReason value pins limit k gaps before budget (ended.Refuted lemmas) = AreKept value pins limit k gaps lemmas
-HasReason value pins limit k gaps before budget ended.Spent = IsSpentBelow value pins limit k gaps before budget
-
--- where a certificate is found, there is a lemma for each visit
-abbrev pub AreCountedIn : ℕ → ℕ → Limit → Type 0
-AreCountedIn before after (ended.Refuted lemmas) = after ≤ before + length lemmas
-AreCountedIn before after _ = Unit {0}
+-- No lemma of a certificate follows from an earlier one, and there are no more than the budget. The budget is spent for
+-- a reason.
+abbrev pub HasReason : (Row → State → Kinds → ℕ) → Pins → ℕ → Kinds → ℕ → ℕ → Limit → Type 0
+HasReason value pins limit k gaps budget (ended.Found row) = Unit {0}
+HasReason value pins limit k gaps budget (ended.Refuted lemmas) =
+    AreKept value pins limit k gaps lemmas × (length lemmas ≤ budget)
+HasReason value pins limit k gaps budget ended.Spent = IsSpentBelow value pins limit k gaps budget

@@ -1,5 +1,5 @@
 -- What one visit of a state promises.
-use Rattle.std.specs.Prelude.{ℕ, ◌≡◌, ◌+◌, ◌<◌, ◌≤◌, ◌⊎◌, ◌++◌, Some, List, [], All, Any, Contains, length, slice_get}
+use Rattle.std.specs.Prelude.{ℕ, ◌≡◌, ◌+◌, ◌<◌, ◌≤◌, ◌⊎◌, ◌++◌, true, List, [], All, Any, Contains, length}
 use Rattle.std.specs.List.{AllPairs}
 use Rattle.cell_num.specs.declared.finger.Row.{Row}
 use Rattle.cell_num.specs.declared.net.Pins.{Pins}
@@ -10,20 +10,19 @@ use Rattle.row_state.specs.Candidates.{IsNumbered}
 use Rattle.row_state.specs.Completion.{cost_of}
 use Rattle.row_state.specs.Start.{HasFingers, columns_left}
 use Rattle.row_state.specs.Steps.{IsPossible, column_of, state_after}
-use Rattle.track_ways.specs.States.{is_behind, is_still_ahead}
+use Rattle.track_ways.specs.States.{is_behind, is_open_at, is_still_ahead}
 use Rattle.track_ways.specs.Tables.{marked}
-use Rattle.track_ways.specs.Tracks.{AreKeys}
+use Rattle.track_ways.specs.Tracks.{AreKeys, IsSingle}
 use Rattle.track_ways.specs.Ways.{ends_ways, goes_ways}
 use Rattle.track_ways.specs.declared.track.NetTrack.{NetTrack}
-use Rattle.track_lemmas.specs.declared.lemma.TrackLemma.{TrackLemma}
-use Rattle.track_lemmas.specs.Certificate.{AreJustified}
-use Rattle.track_lemmas.specs.Checked.{CoversListed}
+use Rattle.track_ways.specs.declared.lemma.TrackLemma.{TrackLemma}
+use Rattle.track_ways.specs.Checked.{CoversListed}
 use Rattle.track_check.specs.Steps.{StepFailsListed}
 use Rattle.track_search.specs.declared.ahead.Ahead.{Ahead}
 use Rattle.track_search.specs.declared.progress.Progress.{Progress}
+use Rattle.track_search.specs.Bare.{IsNoted}
 use Rattle.track_search.specs.InOrder.{in_order}
-use Rattle.track_search.specs.Kept.{AreNew, IsWithin}
-use Rattle.track_search.specs.Noted.{AreNoted}
+use Rattle.track_search.specs.Kept.{AreKept}
 
 abbrev pub lemma_at : State → ℕ → List NetTrack → TrackLemma
 lemma_at s gaps way = record { state = s; gaps = gaps; tracks = way }
@@ -32,14 +31,14 @@ lemma_at s gaps way = record { state = s; gaps = gaps; tracks = way }
 abbrev pub kept_at : ℕ → State → ℕ → List NetTrack → TrackLemma
 kept_at nets s gaps way = lemma_at s gaps (in_order nets way)
 
--- the lemma at the place does not speak of the way
-abbrev pub IsPassed : List TrackLemma → State → ℕ → List NetTrack → ℕ → Type 0
-IsPassed lemmas s gaps way at = (lemma : TrackLemma) → slice_get lemmas at ≡ Some lemma
-    → CoversListed s gaps way lemma → ⊥
-
--- a lemma speaks of each way
+-- a lemma is about each way
 abbrev pub AreCovered : List TrackLemma → State → ℕ → List (List NetTrack) → Type 0
 AreCovered lemmas s gaps ways = All (λ way. Any (CoversListed s gaps way) lemmas) ways
+
+-- one track each of some nets that are open at the state
+pub record IsOfOpen (pins : Pins) (k : Kinds) (s : State) (way : List NetTrack) : Type 0 where
+  pub open' : All (λ (t : NetTrack). is_open_at pins k s t.net ≡ true) way
+  pub one : IsSingle way
 
 -- each way lists the tracks of the nets that are open at the state
 abbrev pub AreWaysAt : Pins → Kinds → State → List (List NetTrack) → Type 0
@@ -53,7 +52,7 @@ AreBelow limit way = All (λ (t : NetTrack). t.track < limit) way
 abbrev pub HasPart : List NetTrack → List NetTrack → Type 0
 HasPart way other = All (Contains way) other
 
--- no lemma speaks of any of the ways, and no way has all tracks of an earlier one
+-- no lemma is about any of the ways, and no way has all tracks of an earlier one
 pub record AreFresh (lemmas : List TrackLemma) (s : State) (gaps : ℕ) (ways : List (List NetTrack)) : Type 0 where
   pub open' : All (λ way. Any (CoversListed s gaps way) lemmas → ⊥) ways
   pub apart : AllPairs (λ a b. HasPart b a → ⊥) ways
@@ -72,7 +71,7 @@ pub record IsAhead (k : Kinds) (s : State) (allowed : ℕ) (step : Step) (ahead 
   pub left : cost_of s (column_of k step) + ahead.left ≡ allowed
   pub nets : marked ahead.nets ≡ is_still_ahead k (state_after k s step)
 
--- a lemma speaks of the way, or it has all tracks of one of the ways
+-- a lemma is about the way, or it has all tracks of one of the ways
 abbrev pub IsTaken : List TrackLemma → State → ℕ → List (List NetTrack) → List NetTrack → Type 0
 IsTaken lemmas s left ways way = Any (CoversListed s left way) lemmas ⊎ Any (HasPart way) ways
 
@@ -104,28 +103,25 @@ pub record EndsGo (pins : Pins) (limit : ℕ) (k : Kinds) (s : State) (ways : Li
   pub none : HasFingers k s → ⊥
   pub go : Any (λ way. EndsFail pins limit k s way → ⊥) ways
 
--- The lemmas after a visit are justified and noted, and none follows from an earlier one. Those before it come first;
--- the others are of states with fewer columns left than these, and of at most that many gaps. The budget is kept.
+-- Lemmas of a search are kept, no more of them than the budget, and noted.
+pub record IsKept
+    (value : Row → State → Kinds → ℕ) (pins : Pins) (limit : ℕ) (k : Kinds) (gaps budget : ℕ) (progress : Progress)
+    : Type 0 where
+  pub kept : AreKept value pins limit k gaps progress.lemmas
+  pub few : length progress.lemmas ≤ budget
+  pub noted : IsNoted k progress
+
+-- So they are after a visit. Those before it come first; the others are of states with fewer columns left than these.
 pub record IsGrown
-    (value : Row → State → Kinds → ℕ) (pins : Pins) (limit : ℕ) (k : Kinds) (budget columns gaps : ℕ)
+    (value : Row → State → Kinds → ℕ) (pins : Pins) (limit : ℕ) (k : Kinds) (gaps budget columns : ℕ)
     (before after : Progress) : Type 0 where
-  pub justified : AreJustified value pins limit k after.lemmas
-  pub own : AreNew after.lemmas
-  pub noted : AreNoted k after.lemmas after.places
+  pub kept : IsKept value pins limit k gaps budget after
   pub more : List TrackLemma
   pub is : after.lemmas ≡ before.lemmas ++ more
   pub fewer : All (λ (lemma : TrackLemma). columns_left k lemma.state < columns) more
-  pub within : All (IsWithin k limit gaps) more
-  pub visits : after.visits ≤ budget
 
--- Where a visit fails, each visit kept a lemma or more.
-abbrev pub AreCounted : Progress → Progress → Type 0
-AreCounted before after = after.visits + length before.lemmas ≤ before.visits + length after.lemmas
-
--- Where the budget is spent in a visit, so did each visit but the ones that are not done, one for each column at most.
-pub record IsCut
-    (value : Row → State → Kinds → ℕ) (pins : Pins) (limit : ℕ) (k : Kinds) (budget columns gaps : ℕ)
-    (before after : Progress) : Type 0 where
-  pub grown : IsGrown value pins limit k budget (columns + 1) gaps before after
-  pub all : after.visits ≡ budget
-  pub many : budget + length before.lemmas ≤ before.visits + length after.lemmas + columns
+-- the first of some lemmas, which are more than the budget
+pub record IsCutOff (budget : ℕ) (lemmas first : List TrackLemma) : Type 0 where
+  pub rest : List TrackLemma
+  pub is : lemmas ≡ first ++ rest
+  pub more : budget < length first

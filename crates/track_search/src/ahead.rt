@@ -1,15 +1,18 @@
-// A next column that the gaps allow.
+// A next column that the gaps allow and that leaves no line crowded.
 ghost use Rattle.std.specs.Prelude.{◌≡◌, IfNone, IfOk, IfSome};
-ghost use Rattle.row_state.specs.Candidates.{AreCandidates, IsCandidate, IsNumbered};
-ghost use Rattle.row_state.specs.Start.{start_of};
+ghost use Rattle.row_state.specs.Candidates.{IsCandidate, IsNumbered};
+ghost use Rattle.row_state.specs.Start.{IsState, start_of};
 ghost use Rattle.track_check.specs.Touches.{AreTouches};
+ghost use Rattle.track_ways.specs.States.{is_behind};
+ghost use Rattle.track_ways.specs.Tables.{marked};
 ghost use Rattle.track_search.specs.Visit.{AlwaysFails, IsAhead};
 
 use cell_num::{NoMemory, Pins};
-use row_state::{Candidate, Kinds, Numbered, RowBound};
+use row_state::{Candidate, Kinds, Numbered, RowBound, State};
 use row_trails::NETS;
 use std::alloc::Global;
-use track_check::{needs_more, nets_ahead, touches};
+use track_check::{needs_more, nets_ahead, state_nets, touches};
+use track_ways::step_uncrowded;
 
 /// What a search is given.
 #[derive(Clone, Copy)]
@@ -24,7 +27,9 @@ pub(crate) struct Task<'a, B> {
     pub bound: &'a B,
     /// How often the start state touches each net.
     pub all: &'a [u32; NETS],
-    /// The most visits.
+    /// The most gaps of a row.
+    pub gaps: u32,
+    /// The most lemmas.
     pub budget: u64,
 }
 
@@ -38,14 +43,28 @@ pub(crate) struct Ahead {
     pub nets: [bool; NETS],
 }
 
-/// The state after the column, or none where the column may not come next or needs more gaps than are allowed.
+/// The nets with a place before the state's last node line.
+pub(crate) fn nets_before<B: RowBound>(task: &Task<B>, state: &State) -> [bool; NETS]
+    requires state { IsState task.now.kinds.now state.now }
+    requires all { AreTouches task.now.kinds.now (start_of task.now.kinds.now) task.now.all.now }
+    ensures { marked result ≡ is_behind task.now.kinds.now state.now }
+{
+    let here = touches(task.kinds, state);
+    let nets = state_nets(task.all, &here);
+    nets.before
+}
+
+/// The state after the column, or none where the column may not come next, needs more gaps than are allowed, or leaves
+/// a line crowded. `before` has the nets with a place before the state.
 pub(crate) fn state_ahead<B: RowBound>(
     task: &Task<B>,
     at: &Numbered,
+    before: &[bool; NETS],
     next: &Candidate,
     allowed: u32,
 ) -> Result<Option<Ahead>, NoMemory>
     requires numbered { IsNumbered task.now.kinds.now at.now }
+    requires before { marked before.now ≡ is_behind task.now.kinds.now at.now.state }
     requires next { IsCandidate task.now.kinds.now next.now }
     ensures none { IfOk result (λ ahead. IfNone ahead (AlwaysFails (B.value task.now.bound.now) task.now.pins.now
         task.now.limit task.now.kinds.now at.now.state allowed next.now.step)) }
@@ -66,5 +85,10 @@ pub(crate) fn state_ahead<B: RowBound>(
     }
     let here = touches(task.kinds, &state.state);
     let nets = nets_ahead(&here);
+    if !step_uncrowded(
+        task.alloc, task.pins, task.limit, task.kinds, &at.state, before, &next.step, &nets,
+    )? {
+        return Ok(None);
+    }
     Ok(Some(Ahead { state, left, nets }))
 }

@@ -1,55 +1,21 @@
 ghost use Rattle.std.specs.Prelude.{◌≡◌, ◌+◌, ◌≤◌, All, IfErr, IfNone, IfOk, IfSome, OnOk, reverse};
 ghost use Rattle.row_state.specs.Candidates.{AreCandidates, IsNumbered};
-ghost use Rattle.row_state.specs.Start.{IsState, columns_left, start_of};
+ghost use Rattle.row_state.specs.Start.{columns_left, start_of};
 ghost use Rattle.track_ways.specs.Paths.{EndsFit};
-ghost use Rattle.track_ways.specs.States.{is_behind};
-ghost use Rattle.track_ways.specs.Tables.{marked};
 ghost use Rattle.track_check.specs.Touches.{AreTouches};
-ghost use Rattle.track_lemmas.specs.Certificate.{AreJustified};
 ghost use Rattle.track_search.specs.First.{IsFirstRouted};
-ghost use Rattle.track_search.specs.Kept.{AreNew};
-ghost use Rattle.track_search.specs.Noted.{AreNoted};
-ghost use Rattle.track_search.specs.Visit.{AreBelow, AreCounted, AreCovered, AreFresh, AreWaysAt, IsCut, IsGrown};
-ghost use Rattle.track_search.specs.declared.descent.Halt.TheVariants.{Spent};
+ghost use Rattle.track_search.specs.Kept.{IsSpentBelow};
+ghost use Rattle.track_search.specs.Visit.{AreBelow, AreCovered, AreFresh, AreWaysAt, IsGrown, IsKept};
+ghost use Rattle.track_search.specs.declared.halt.Halt.TheVariants.{Spent};
 
-use crate::ahead::{Task, state_ahead};
+use crate::ahead::{Task, nets_before, state_ahead};
+use crate::closed::closes;
 use crate::ends::ends;
+use crate::halt::Halt;
 use crate::onward::onward_ways;
 use crate::progress::Progress;
-use cell_num::NoMemory;
-use row_state::{Kinds, Numbered, RowBound, State, Steps};
-use row_trails::NETS;
-use track_check::{state_nets, touches};
+use row_state::{Numbered, RowBound, Steps};
 use track_ways::TrackWays;
-
-/// Why a visit ends without an answer.
-#[derive(Debug, Drop)]
-pub(crate) enum Halt {
-    Spent,
-    NoMemory,
-}
-
-impl From<NoMemory> for Halt {
-    ghost use Rattle.std.specs.Prelude.{◌≡◌};
-    ghost use Rattle.track_search.specs.declared.descent.Halt.TheVariants.{NoMemory};
-
-    ghost from_gives = { λ _ e. e ≡ NoMemory };
-
-    fn from(_: NoMemory) -> Halt {
-        Halt::NoMemory
-    }
-}
-
-// The nets with a place before the state's last node line.
-fn nets_before(kinds: &Kinds, all: &[u32; NETS], state: &State) -> [bool; NETS]
-    requires state { IsState kinds.now state.now }
-    requires all { AreTouches kinds.now (start_of kinds.now) all.now }
-    ensures { marked result ≡ is_behind kinds.now state.now }
-{
-    let here = touches(kinds, state);
-    let nets = state_nets(all, &here);
-    nets.before
-}
 
 /// The first completion of the state with at most as many gaps as are allowed along which tracks of one of the ways go,
 /// its last step first, or none: then a kept lemma says so of each way.
@@ -67,39 +33,46 @@ pub(crate) fn visit<B: RowBound>(
     requires ways { AreWaysAt task.now.pins.now task.now.kinds.now at.now.state ways.now }
     requires below { All (AreBelow task.now.limit) ways.now }
     requires fresh { AreFresh progress.old.lemmas at.now.state allowed ways.now }
-    requires visits { progress.old.visits ≤ task.now.budget }
-    requires justified { AreJustified (B.value task.now.bound.now) task.now.pins.now task.now.limit task.now.kinds.now
-        progress.old.lemmas }
-    requires own { AreNew progress.old.lemmas }
-    requires noted { AreNoted task.now.kinds.now progress.old.lemmas progress.old.places }
+    requires gaps { allowed ≤ task.now.gaps }
+    requires kept { IsKept (B.value task.now.bound.now) task.now.pins.now task.now.limit task.now.kinds.now
+        task.now.gaps task.now.budget progress.old }
     ensures grown { OnOk result (IsGrown (B.value task.now.bound.now) task.now.pins.now task.now.limit
-        task.now.kinds.now task.now.budget (columns_left task.now.kinds.now at.now.state + 1) allowed progress.old
-        progress.new) }
+        task.now.kinds.now task.now.gaps task.now.budget (columns_left task.now.kinds.now at.now.state + 1)
+        progress.old progress.new) }
     ensures none { IfOk result (λ r. IfNone r (AreCovered progress.new.lemmas at.now.state allowed ways.now)) }
-    ensures counted { IfOk result (λ r. IfNone r (AreCounted progress.old progress.new)) }
     ensures first { IfOk result (λ r. IfSome r (λ steps. IsFirstRouted task.now.pins.now task.now.limit
         task.now.kinds.now at.now.state ways.now allowed (reverse steps))) }
-    ensures spent { IfErr result (λ halt. halt ≡ Spent → IsCut (B.value task.now.bound.now) task.now.pins.now
-        task.now.limit task.now.kinds.now task.now.budget (columns_left task.now.kinds.now at.now.state) allowed
-        progress.old progress.new) }
+    ensures spent { IfErr result (λ halt. halt ≡ Spent → IsSpentBelow (B.value task.now.bound.now) task.now.pins.now
+        task.now.limit task.now.kinds.now task.now.gaps task.now.budget) }
 {
     task.kinds.show_limits();
     if ways.len() == 0 {
         return Ok(None);
     }
-    if progress.visits == task.budget {
-        return Err(Halt::Spent);
-    }
-    progress.count_visit();
-    let before = nets_before(task.kinds, task.all, &at.state);
+    let before = nets_before(task, &at.state);
     if ends(task, &at.state, &before, ways)? {
         return Ok(Some(Steps::new(task.alloc)));
     }
     for next in task.candidates {
-        let Some(ahead) = state_ahead(task, at, next, allowed)? else {
+        let Some(ahead) = state_ahead(task, at, &before, next, allowed)? else {
             continue;
         };
-        let onward = onward_ways(task, progress, &at.state, &before, next, &ahead, ways)?;
+        let closed = match closes(task, progress, &ahead.state, ahead.left) {
+            Ok(closed) => closed,
+            Err(halt) => return Err(halt),
+        };
+        if closed {
+            continue;
+        }
+        let onward = onward_ways(
+            task,
+            &progress.noted(),
+            &at.state,
+            &before,
+            next,
+            &ahead,
+            ways,
+        )?;
         let tried = match visit(task, progress, &ahead.state, &onward, ahead.left) {
             Ok(tried) => tried,
             Err(halt) => return Err(halt),
@@ -109,6 +82,8 @@ pub(crate) fn visit<B: RowBound>(
             return Ok(Some(rest));
         }
     }
-    progress.keep(task.alloc, task.kinds, at, allowed, ways.as_slice())?;
-    Ok(None)
+    match progress.keep(task, at, allowed, ways.as_slice()) {
+        Ok(()) => Ok(None),
+        Err(halt) => Err(halt),
+    }
 }

@@ -3,8 +3,9 @@ ghost use Rattle.std.specs.Prelude.{◌≡◌, All, IfOk};
 ghost use Rattle.row_state.specs.Candidates.{AreCandidates, IsNumbered};
 ghost use Rattle.row_state.specs.Start.{start_of};
 ghost use Rattle.track_check.specs.Touches.{AreTouches};
-ghost use Rattle.track_search.specs.Fewest.{AreAtMost, AreLegalTracks, IsFewest, IsOpen, TakeTracks, lemmas_of};
-ghost use Rattle.track_search.specs.Kept.{IsWithin};
+ghost use Rattle.track_search.specs.Fewest.{AreAtMost, AreLegalTracks, IsFewest, IsOpen, TakeTracks};
+ghost use Rattle.track_search.specs.Fewest.{least_of, lemmas_of};
+ghost use Rattle.track_search.specs.Kept.{IsKeptWithin, IsWithin};
 
 use crate::Limit;
 use crate::ahead::Task;
@@ -14,7 +15,7 @@ use row_model::Arrangement;
 use row_state::{Kinds, Numbered, RowBound, candidates};
 use std::alloc::Global;
 use track_check::touches;
-use track_lemmas::TrackLemmas;
+use track_ways::TrackLemmas;
 
 /// What the search for the fewest tracks ends with.
 #[derive(Debug, Drop)]
@@ -25,7 +26,7 @@ pub enum Fewest {
         tracks: u32,
         lemmas: TrackLemmas,
     },
-    /// The visits are spent, or no row has tracks below the most: each row takes at least that many tracks, which the
+    /// The budget is spent, or no row has tracks below the most: each row takes at least that many tracks, which the
     /// lemmas certify where these are some.
     Open {
         proved: u32,
@@ -33,37 +34,30 @@ pub enum Fewest {
     },
 }
 
-// Tries the limits in turn, from 0 on.
-fn try_limits<B: RowBound>(
-    task: &Task<B>,
-    first: &Numbered,
-    gaps: u32,
-    most: u32,
-) -> Result<Fewest, NoMemory>
+// Tries the limits in turn, from 0 on. Each is left what the lemmas below it leave of the budget.
+fn try_limits<B: RowBound>(task: &Task<B>, first: &Numbered, most: u32) -> Result<Fewest, NoMemory>
     requires candidates { AreCandidates task.now.kinds.now task.now.candidates.now }
     requires all { AreTouches task.now.kinds.now (start_of task.now.kinds.now) task.now.all.now }
     requires state { first.now.state ≡ start_of task.now.kinds.now }
     requires numbered { IsNumbered task.now.kinds.now first.now }
-    ensures fewest { IfOk result (IsFewest (B.value task.now.bound.now) task.now.pins.now task.now.kinds.now gaps) }
+    ensures fewest { IfOk result (IsFewest (B.value task.now.bound.now) task.now.pins.now task.now.kinds.now
+        task.now.gaps) }
     ensures most { IfOk result (AreAtMost most) }
-    ensures within { IfOk result (λ e. All (IsWithin task.now.kinds.now most gaps) (lemmas_of e)) }
-    ensures open { IfOk result (IsOpen (B.value task.now.bound.now) task.now.pins.now task.now.kinds.now gaps most
-        task.now.budget) }
+    ensures within { IfOk result (λ e. All (IsWithin task.now.kinds.now most task.now.gaps) (lemmas_of e)) }
+    ensures kept { IfOk result (λ e. IsKeptWithin (B.value task.now.bound.now) task.now.pins.now task.now.kinds.now
+        task.now.gaps (least_of e) task.now.budget (lemmas_of e)) }
+    ensures open { IfOk result (IsOpen (B.value task.now.bound.now) task.now.pins.now task.now.kinds.now task.now.gaps
+        most task.now.budget) }
 {
-    let mut visits = 0;
+    let mut budget = task.budget;
     let mut lemmas = TrackLemmas::new(task.alloc);
     for limit in 0..most {
         let here = Task {
-            alloc: task.alloc,
-            kinds: task.kinds,
-            pins: task.pins,
             limit,
-            candidates: task.candidates,
-            bound: task.bound,
-            all: task.all,
-            budget: task.budget,
+            budget,
+            ..*task
         };
-        match search_task(&here, first, gaps, &mut visits)? {
+        match search_task(&here, first)? {
             Limit::Found { row } => {
                 return Ok(Fewest::Found {
                     row,
@@ -71,7 +65,10 @@ fn try_limits<B: RowBound>(
                     lemmas,
                 });
             }
-            Limit::Refuted { lemmas: next } => lemmas = next,
+            Limit::Refuted { lemmas: next } => {
+                budget -= next.len() as u64;
+                lemmas = next;
+            }
             Limit::Spent => {
                 return Ok(Fewest::Open {
                     proved: limit,
@@ -87,8 +84,8 @@ fn try_limits<B: RowBound>(
 }
 
 /// The first row of the kinds' fingers with at most that many gaps that has a legal routing on the fewest tracks, where
-/// these are fewer than the most; or, where the visits for all numbers of tracks are spent before, how many each row
-/// takes at least. `budget` is the most visits.
+/// these are fewer than the most; or, where the search needs more lemmas than the budget, how many each row takes at
+/// least. The budget counts the lemmas for all numbers of tracks.
 pub fn fewest_tracks<B: RowBound>(
     alloc: Global,
     bound: &B,
@@ -106,7 +103,10 @@ pub fn fewest_tracks<B: RowBound>(
     ensures most { IfOk result (AreAtMost most) }
     // the lemmas are on valid states, on nets of the kinds and on tracks below the most
     ensures within { IfOk result (λ e. All (IsWithin kinds.now most gaps) (lemmas_of e)) }
-    // the search ends open only at the most tracks, or where the visits are spent for a reason
+    // all lemmas that are kept on fewer tracks are no more than the budget
+    ensures kept { IfOk result (λ e. IsKeptWithin (B.value bound.now) pins.now kinds.now gaps (least_of e) budget
+        (lemmas_of e)) }
+    // the search ends open only at the most tracks, or where the budget is spent for a reason
     ensures open { IfOk result (IsOpen (B.value bound.now) pins.now kinds.now gaps most budget) }
 {
     kinds.show_limits();
@@ -121,8 +121,9 @@ pub fn fewest_tracks<B: RowBound>(
         candidates: candidates.as_slice(),
         bound,
         all: &all,
+        gaps,
         budget,
     };
-    let fewest = try_limits(&task, &first, gaps, most)?;
+    let fewest = try_limits(&task, &first, most)?;
     Ok(fewest)
 }

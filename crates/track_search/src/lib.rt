@@ -1,15 +1,22 @@
-// The first row that has tracks below a limit, or lemmas that certify that none has.
+// The first row that has tracks below a limit, or lemmas that certify that none has. The first row on the fewest
+// tracks, with its routing.
 #![tactic(auto)]
 
 mod ahead;
+mod by_state;
+mod closed;
 mod descent;
 mod ends;
 mod fewest;
+mod halt;
+mod laws;
 mod limit;
+mod lowest;
 mod onward;
 mod order;
-mod places;
 mod progress;
 
 pub use fewest::{Fewest, fewest_tracks};
+pub use laws::sound_pins;
 pub use limit::{Limit, search_limit};
+pub use lowest::{Lowest, lowest_row};

@@ -1,24 +1,25 @@
 // The first row with tracks below a limit, or a certificate that none has.
-ghost use Rattle.std.specs.Prelude.{◌≡◌, ◌+◌, ◌≤◌, [], ◌∷◌, IfErr, IfNone, IfOk, IfSome, OnOk, length, map, reverse};
+ghost use Rattle.std.specs.Prelude.{◌≡◌, ◌≤◌, [], ◌∷◌, IfErr, IfNone, IfOk, IfSome, length, map, reverse};
 ghost use Rattle.row_state.specs.Candidates.{AreCandidates, IsNumbered};
 ghost use Rattle.row_state.specs.Start.{start_of};
 ghost use Rattle.row_state.specs.Steps.{column_of};
 ghost use Rattle.track_check.specs.Touches.{AreTouches};
-ghost use Rattle.track_lemmas.specs.Certificate.{Certifies};
-ghost use Rattle.track_search.specs.declared.descent.Halt.TheVariants.{Spent};
+ghost use Rattle.track_ways.specs.Certificate.{Certifies};
+ghost use Rattle.track_search.specs.declared.halt.Halt.TheVariants.{Spent};
+ghost use Rattle.track_search.specs.Bare.{IsNoted};
 ghost use Rattle.track_search.specs.Kept.{AreKept, IsSpentBelow};
-ghost use Rattle.track_search.specs.Limit.{AreCountedIn, HasReason, IsEnd, IsFirstRow, NeedsMoreTracks};
+ghost use Rattle.track_search.specs.Limit.{HasReason, IsEnd, IsFirstRow, NeedsMoreTracks};
 
 use crate::ahead::Task;
-use crate::descent::{Halt, visit};
+use crate::descent::visit;
+use crate::halt::Halt;
 use crate::progress::Progress;
 use cell_num::{List, NoMemory, Pins};
 use row_model::{Arrangement, Column};
 use row_state::{Kinds, Numbered, RowBound, Step, candidates, column, start};
 use std::alloc::{AllocError, Global};
 use track_check::touches;
-use track_lemmas::TrackLemmas;
-use track_ways::{NetTracks, TrackWays};
+use track_ways::{NetTracks, TrackLemmas, TrackWays};
 
 /// What the search for a row with tracks below a limit ends with.
 #[derive(Debug, Drop)]
@@ -27,7 +28,7 @@ pub enum Limit {
     Found { row: Arrangement },
     /// They certify that no row has.
     Refuted { lemmas: TrackLemmas },
-    /// The visits are spent.
+    /// There is a lemma more than the budget allows.
     Spent,
 }
 
@@ -69,28 +70,26 @@ fn search_start<B: RowBound>(
     task: &Task<B>,
     first: &Numbered,
     progress: &mut Progress,
-    gaps: u32,
 ) -> Result<Option<Arrangement>, Halt>
     requires candidates { AreCandidates task.now.kinds.now task.now.candidates.now }
     requires all { AreTouches task.now.kinds.now (start_of task.now.kinds.now) task.now.all.now }
     requires state { first.now.state ≡ start_of task.now.kinds.now }
     requires numbered { IsNumbered task.now.kinds.now first.now }
-    requires visits { progress.old.visits ≤ task.now.budget }
     requires lemmas { progress.old.lemmas ≡ [] }
-    ensures visits { OnOk result (progress.new.visits ≤ task.now.budget) }
-    ensures found { IfOk result (λ r. IfSome r (IsFirstRow task.now.pins.now task.now.limit task.now.kinds.now gaps)) }
+    requires noted { IsNoted task.now.kinds.now progress.old }
+    ensures found { IfOk result (λ r. IfSome r (IsFirstRow task.now.pins.now task.now.limit task.now.kinds.now
+        task.now.gaps)) }
     ensures none { IfOk result (λ r. IfNone r (Certifies (B.value task.now.bound.now) task.now.pins.now task.now.limit
-        task.now.kinds.now gaps progress.new.lemmas)) }
+        task.now.kinds.now task.now.gaps progress.new.lemmas)) }
     ensures kept { IfOk result (λ r. IfNone r (AreKept (B.value task.now.bound.now) task.now.pins.now task.now.limit
-        task.now.kinds.now gaps progress.new.lemmas)) }
-    ensures counted { IfOk result (λ r. IfNone r (progress.new.visits
-        ≤ progress.old.visits + length progress.new.lemmas)) }
+        task.now.kinds.now task.now.gaps progress.new.lemmas)) }
+    ensures few { IfOk result (λ r. IfNone r (length progress.new.lemmas ≤ task.now.budget)) }
     ensures spent { IfErr result (λ halt. halt ≡ Spent → IsSpentBelow (B.value task.now.bound.now) task.now.pins.now
-        task.now.limit task.now.kinds.now gaps progress.old.visits task.now.budget) }
+        task.now.limit task.now.kinds.now task.now.gaps task.now.budget) }
 {
     task.kinds.show_limits();
     let ways = no_tracks(task.alloc)?;
-    let found = match visit(task, progress, first, &ways, gaps) {
+    let found = match visit(task, progress, first, &ways, task.gaps) {
         Ok(found) => found,
         Err(halt) => return Err(halt),
     };
@@ -101,42 +100,31 @@ fn search_start<B: RowBound>(
     Ok(None)
 }
 
-/// The search from the start, with the visits so far, which go on.
-pub(crate) fn search_task<B: RowBound>(
-    task: &Task<B>,
-    first: &Numbered,
-    gaps: u32,
-    visits: &mut u64,
-) -> Result<Limit, NoMemory>
+/// The search from the start.
+pub(crate) fn search_task<B: RowBound>(task: &Task<B>, first: &Numbered) -> Result<Limit, NoMemory>
     requires candidates { AreCandidates task.now.kinds.now task.now.candidates.now }
     requires all { AreTouches task.now.kinds.now (start_of task.now.kinds.now) task.now.all.now }
     requires state { first.now.state ≡ start_of task.now.kinds.now }
     requires numbered { IsNumbered task.now.kinds.now first.now }
-    requires visits { visits.old ≤ task.now.budget }
     ensures end { IfOk result (IsEnd (B.value task.now.bound.now) task.now.pins.now task.now.limit task.now.kinds.now
-        gaps) }
-    ensures visits { OnOk result (visits.new ≤ task.now.budget) }
+        task.now.gaps) }
     ensures kept { IfOk result (HasReason (B.value task.now.bound.now) task.now.pins.now task.now.limit
-        task.now.kinds.now gaps visits.old task.now.budget) }
-    ensures counted { IfOk result (AreCountedIn visits.old visits.new) }
+        task.now.kinds.now task.now.gaps task.now.budget) }
 {
-    let mut progress = Progress::new(task.alloc, *visits);
-    match search_start(task, first, &mut progress, gaps) {
+    let mut progress = Progress::new(task.alloc);
+    match search_start(task, first, &mut progress) {
         Ok(Some(row)) => Ok(Limit::Found { row }),
-        Ok(None) => {
-            *visits = progress.visits;
-            Ok(Limit::Refuted {
-                lemmas: progress.lemmas,
-            })
-        }
+        Ok(None) => Ok(Limit::Refuted {
+            lemmas: progress.lemmas,
+        }),
         Err(Halt::Spent) => Ok(Limit::Spent),
         Err(Halt::NoMemory) => Err(NoMemory),
     }
 }
 
 /// The first row of the kinds' fingers with at most that many gaps that has tracks below the limit; or a certificate
-/// that no such row has a legal routing on that many tracks; or neither, where the visits are spent. `budget` is the
-/// most visits.
+/// that no such row has a legal routing on that many tracks; or neither, where the search needs more lemmas than the
+/// budget.
 pub fn search_limit<B: RowBound>(
     alloc: Global,
     bound: &B,
@@ -149,8 +137,8 @@ pub fn search_limit<B: RowBound>(
     ensures end { IfOk result (IsEnd (B.value bound.now) pins.now limit kinds.now gaps) }
     // a certificate is true: each legal routing has more tracks
     ensures more { IfOk result (NeedsMoreTracks pins.now limit kinds.now gaps) }
-    // none of its lemmas is idle; where the visits are spent, there are as many lemmas but for the columns of one row
-    ensures kept { IfOk result (HasReason (B.value bound.now) pins.now limit kinds.now gaps 0 budget) }
+    // none of its lemmas is idle, and they are no more than the budget; where it is spent, more of them are kept
+    ensures kept { IfOk result (HasReason (B.value bound.now) pins.now limit kinds.now gaps budget) }
 {
     kinds.show_limits();
     let first = numbered_start(alloc, kinds)?;
@@ -164,9 +152,9 @@ pub fn search_limit<B: RowBound>(
         candidates: candidates.as_slice(),
         bound,
         all: &all,
+        gaps,
         budget,
     };
-    let mut visits = 0;
-    let ended = search_task(&task, &first, gaps, &mut visits)?;
+    let ended = search_task(&task, &first)?;
     Ok(ended)
 }

@@ -1,38 +1,25 @@
 // The ways of tracks after a next column.
 ghost use Rattle.std.specs.Prelude.{◌≡◌, ◌↔◌, All, Any, IfOk, IsTrue, OnOk, false};
-ghost use Rattle.std.specs.List.{list_all, list_any};
 ghost use Rattle.row_state.specs.Start.{IsState};
 ghost use Rattle.row_state.specs.Steps.{state_after};
 ghost use Rattle.track_ways.specs.States.{is_behind, is_still_ahead};
 ghost use Rattle.track_ways.specs.Tables.{marked};
-ghost use Rattle.track_check.specs.Steps.{is_track};
-ghost use Rattle.track_search.specs.Noted.{AreNotedAt};
+ghost use Rattle.track_check.specs.Noted.{AreNotedAt};
 ghost use Rattle.track_search.specs.Visit.{AreAdded, AreFresh, AreTaken, GoOn, HasPart};
 
 use crate::ahead::{Ahead, Task};
-use crate::progress::{Progress, copied_way};
+use crate::progress::copied_way;
 use cell_num::NoMemory;
 use row_state::{Candidate, Numbered, RowBound, State};
 use row_trails::NETS;
 use std::alloc::Global;
-use track_ways::{NetTrack, NetTracks, TrackWays, step_ways};
-
-fn is_in(way: &[NetTrack], t: &NetTrack) -> bool
-    ensures { result ≡ list_any (is_track t.now) way.now }
-{
-    way.iter().any(|u| u.net.0 == t.net.0 && u.track == t.track)
-}
-
-fn all_in(way: &[NetTrack], other: &[NetTrack]) -> bool
-    ensures { result ≡ list_all (λ t. list_any (is_track t) way.now) other.now }
-{
-    other.iter().all(|t| is_in(way, t))
-}
+use track_check::{NotedLemmas, lists};
+use track_ways::{NetTracks, TrackWays, step_ways};
 
 fn has_part(way: &NetTracks, other: &NetTracks) -> bool
     ensures { IsTrue result ↔ HasPart way.now other.now }
 {
-    all_in(way.as_slice(), other.as_slice())
+    lists(way.as_slice(), other.as_slice())
 }
 
 // Whether the way has all tracks of one of the others.
@@ -48,23 +35,23 @@ fn has_one(way: &NetTracks, others: &[NetTracks]) -> bool
     false
 }
 
-// Adds those of the found ways that are not there and that no lemma speaks of.
+// Adds those of the found ways that are not there and that no lemma is about.
 fn add_new(
     alloc: Global,
-    progress: &Progress,
+    known: &NotedLemmas,
     at: &Numbered,
     left: u32,
     found: &[NetTracks],
     ways: &mut TrackWays,
 ) -> Result<(), NoMemory>
-    requires noted { AreNotedAt progress.now at.now }
-    requires fresh { AreFresh progress.now.lemmas at.now.state left ways.old }
-    ensures added { OnOk result (AreAdded progress.now.lemmas at.now.state left found.now found.now ways.old
+    requires noted { AreNotedAt known.now.lemmas.now known.now.places.now at.now }
+    requires fresh { AreFresh known.now.lemmas.now at.now.state left ways.old }
+    ensures added { OnOk result (AreAdded known.now.lemmas.now at.now.state left found.now found.now ways.old
         ways.new) }
-    ensures fresh { OnOk result (AreFresh progress.now.lemmas at.now.state left ways.new) }
+    ensures fresh { OnOk result (AreFresh known.now.lemmas.now at.now.state left ways.new) }
 {
     for way in found {
-        if progress.covers(at, left, way) {
+        if known.covers(at, left, way.as_slice()) {
             continue;
         }
         if has_one(way, ways.as_slice()) {
@@ -78,7 +65,7 @@ fn add_new(
 /// The ways after the column of which no lemma speaks, each once. `before` has the nets with a place before the state.
 pub(crate) fn onward_ways<B: RowBound>(
     task: &Task<B>,
-    progress: &Progress,
+    known: &NotedLemmas,
     state: &State,
     before: &[bool; NETS],
     next: &Candidate,
@@ -89,12 +76,12 @@ pub(crate) fn onward_ways<B: RowBound>(
     requires before { marked before.now ≡ is_behind task.now.kinds.now state.now }
     requires nets { marked ahead.now.nets ≡ is_still_ahead task.now.kinds.now
         (state_after task.now.kinds.now state.now next.now.step) }
-    requires noted { AreNotedAt progress.now ahead.now.state }
+    requires noted { AreNotedAt known.now.lemmas.now known.now.places.now ahead.now.state }
     ensures taken { IfOk result (λ onward. All (AreTaken task.now.pins.now task.now.limit task.now.kinds.now
-        progress.now.lemmas state.now next.now.step ahead.now.state.state ahead.now.left onward) ways.now) }
+        known.now.lemmas.now state.now next.now.step ahead.now.state.state ahead.now.left onward) ways.now) }
     ensures from { IfOk result (λ onward. All (GoOn task.now.pins.now task.now.limit task.now.kinds.now state.now
         next.now.step ways.now) onward) }
-    ensures fresh { IfOk result (AreFresh progress.now.lemmas ahead.now.state.state ahead.now.left) }
+    ensures fresh { IfOk result (AreFresh known.now.lemmas.now ahead.now.state.state ahead.now.left) }
 {
     let mut onward = TrackWays::new(task.alloc);
     for way in ways.as_slice() {
@@ -111,7 +98,7 @@ pub(crate) fn onward_ways<B: RowBound>(
         )?;
         add_new(
             task.alloc,
-            progress,
+            known,
             &ahead.state,
             ahead.left,
             found.as_slice(),

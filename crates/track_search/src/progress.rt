@@ -1,25 +1,32 @@
-ghost use Rattle.std.specs.Prelude.{◌≡◌, ◌<◌, ◌+◌, ◌++◌, ◌∷◌, [], Any, IfOk, IsTrue, OnOk, false, map};
+ghost use Rattle.std.specs.Prelude.{◌≡◌, ◌≢◌, ◌≤◌, ◌⊎◌, ◌↔◌, ◌++◌, ◌∷◌, [], ℕ};
+ghost use Rattle.std.specs.Prelude.{Any, IfErr, IfOk, IsTrue, OnOk, length, map};
+ghost use Rattle.row_state.specs.declared.kind.Kinds.{Kinds as KindsOf};
 ghost use Rattle.row_state.specs.Candidates.{IsNumbered};
-ghost use Rattle.track_lemmas.specs.Checked.{CoversListed};
+ghost use Rattle.track_ways.specs.Certificate.{CoversAll};
+ghost use Rattle.track_search.specs.Bare.{IsBare, IsNoted, IsUpTo, gaps_at};
 ghost use Rattle.track_search.specs.InOrder.{in_order};
-ghost use Rattle.track_search.specs.Noted.{AreNoted, AreNotedAt};
-ghost use Rattle.track_search.specs.Visit.{IsPassed, kept_at};
+ghost use Rattle.track_search.specs.Visit.{IsCutOff, kept_at};
+ghost use Rattle.track_search.specs.declared.halt.Halt.TheVariants.{Spent};
 
+use crate::ahead::Task;
+use crate::by_state::GapsByState;
+use crate::halt::Halt;
 use crate::order::in_order;
-use crate::places::Places;
 use cell_num::{List, NoMemory};
-use row_state::{Kinds, Numbered, State};
+use row_state::{Numbered, RowBound, State};
 use std::alloc::Global;
-use track_check::covers;
-use track_lemmas::{TrackLemma, TrackLemmas};
-use track_ways::NetTracks;
+use track_check::{NotedLemmas, Places};
+use track_ways::{NetTracks, TrackLemma, TrackLemmas};
 
-/// What a search did so far: its visits, and the lemmas that it kept.
+/// What a search knows so far: the lemmas that it kept, and hints that make it quick.
 #[derive(Drop)]
 pub(crate) struct Progress {
-    pub visits: u64,
     pub lemmas: TrackLemmas,
     places: Places,
+    // The most gaps of the lemmas without tracks.
+    bare: GapsByState,
+    // The fewest gaps with which a state is known to have a completion without a crowded line.
+    open: GapsByState,
 }
 
 fn copied_state(state: &State) -> Result<State, NoMemory>
@@ -28,7 +35,7 @@ fn copied_state(state: &State) -> Result<State, NoMemory>
     Ok(state.clone()?)
 }
 
-/// The same tracks once more.
+/// The same tracks again.
 pub(crate) fn copied_way(alloc: Global, way: &NetTracks) -> Result<NetTracks, NoMemory>
     ensures { IfOk result (λ copy. copy ≡ way.now) }
 {
@@ -62,102 +69,166 @@ fn kept_at(
     })
 }
 
-// Whether the lemma at the place speaks of the state, of as many gaps and of the way.
-#[tactic(auto, using(crate::proofs::Refuted::covered_at, crate::proofs::Noted::passed_at))]
-fn is_covered_at(
-    lemmas: &[TrackLemma],
-    at: usize,
-    state: &State,
-    gaps: u32,
-    way: &NetTracks,
-) -> bool
-    ensures yes { IsTrue result → Any (CoversListed state.now gaps way.now) lemmas.now }
-    ensures no { result ≡ false → IsPassed lemmas.now state.now gaps way.now at }
+// The greater of the two.
+#[tactic(auto, using(crate::proofs::Bare::up_none, crate::proofs::Bare::up_gaps, crate::proofs::Bare::up_noted))]
+fn most(noted: Option<u32>, gaps: u32) -> u32
+    ensures { (n : ℕ) → n ≤ result ↔ (IsUpTo noted n ⊎ (n ≤ gaps)) }
 {
-    match lemmas.get(at) {
-        Some(lemma) => covers(lemma, state, gaps, way),
+    let Some(most) = noted else {
+        return gaps;
+    };
+    if most < gaps {
+        return gaps;
+    }
+    most
+}
+
+fn is_up_to(noted: Option<u32>, gaps: u32) -> bool
+    ensures { IsTrue result ↔ IsUpTo noted gaps }
+{
+    match noted {
+        Some(most) => gaps <= most,
         None => false,
     }
 }
 
+// Notes the gaps of a lemma without tracks on the state with the number.
+#[tactic(auto, using(crate::proofs::Bare::not_bare, crate::proofs::Bare::bare_set))]
+fn note(bare: &mut GapsByState, number: u128, lemma: &TrackLemma) -> Result<(), NoMemory>
+    ensures here { OnOk result ((n : ℕ) → IsUpTo (gaps_at bare.new number) n
+        ↔ (IsUpTo (gaps_at bare.old number) n ⊎ IsBare lemma.now n)) }
+    ensures others { OnOk result ((q : ℕ) → q ≢ number → gaps_at bare.new q ≡ gaps_at bare.old q) }
+{
+    if lemma.tracks.len() > 0 {
+        return Ok(());
+    }
+    let gaps = most(bare.at(number), lemma.gaps);
+    bare.set(number, gaps)?;
+    Ok(())
+}
+
 impl Progress {
-    /// No lemma is kept, after that many visits.
-    pub(crate) fn new(alloc: Global, visits: u64) -> Progress
-        ensures visits { result.visits ≡ visits }
+    /// No lemma is kept.
+    pub(crate) fn new(alloc: Global) -> Progress
         ensures lemmas { result.lemmas ≡ [] }
+        ensures noted { (k : KindsOf) → IsNoted k result }
     {
         Progress {
-            visits,
             lemmas: TrackLemmas::new(alloc),
             places: Places::new(alloc),
+            bare: GapsByState::new(alloc),
+            open: GapsByState::new(alloc),
         }
     }
 
-    pub(crate) fn count_visit(&mut self)
-        requires { self.old.visits < 18446744073709551615 }
-        ensures visits { self.new.visits ≡ self.old.visits + 1 }
-        ensures lemmas { self.new.lemmas ≡ self.old.lemmas }
-        ensures places { self.new.places ≡ self.old.places }
+    /// The lemmas, to be looked up by their state.
+    pub(crate) fn noted(&self) -> NotedLemmas<'_>
+        ensures lemmas { result.lemmas.now ≡ self.now.lemmas }
+        ensures places { result.places.now ≡ self.now.places }
     {
-        self.visits += 1;
+        NotedLemmas {
+            lemmas: self.lemmas.as_slice(),
+            places: &self.places,
+        }
     }
 
-    // Keeps a lemma for the way.
-    fn keep_one(
+    /// Whether a kept lemma without tracks is about the state and as many gaps.
+    pub(crate) fn is_closed<B: RowBound>(&self, task: &Task<B>, at: &Numbered, gaps: u32) -> bool
+        requires numbered { IsNumbered task.now.kinds.now at.now }
+        requires noted { IsNoted task.now.kinds.now self.now }
+        ensures { IsTrue result ↔ Any (CoversAll at.now.state gaps) self.now.lemmas }
+    {
+        is_up_to(self.bare.at(at.code), gaps)
+    }
+
+    /// Whether the state is known to be open with that many gaps. It is a hint alone.
+    pub(crate) fn is_open(&self, at: &Numbered, gaps: u32) -> bool {
+        match self.open.at(at.code) {
+            Some(fewest) => fewest <= gaps,
+            None => false,
+        }
+    }
+
+    /// Notes that the state is open with that many gaps.
+    pub(crate) fn note_open(&mut self, at: &Numbered, gaps: u32) -> Result<(), NoMemory>
+        ensures lemmas { self.new.lemmas ≡ self.old.lemmas }
+        ensures places { self.new.places ≡ self.old.places }
+        ensures bare { self.new.bare ≡ self.old.bare }
+    {
+        self.open.set(at.code, gaps)?;
+        Ok(())
+    }
+
+    // One lemma more.
+    fn add<B: RowBound>(
         &mut self,
-        alloc: Global,
-        kinds: &Kinds,
+        task: &Task<B>,
         at: &Numbered,
         gaps: u32,
         way: &NetTracks,
     ) -> Result<(), NoMemory>
-        requires numbered { IsNumbered kinds.now at.now }
-        requires noted { AreNoted kinds.now self.old.lemmas self.old.places }
+        requires numbered { IsNumbered task.now.kinds.now at.now }
+        requires noted { IsNoted task.now.kinds.now self.old }
         ensures lemmas { OnOk result (self.new.lemmas
-            ≡ self.old.lemmas ++ kept_at kinds.now.nets at.now.state gaps way.now ∷ []) }
-        ensures noted { OnOk result (AreNoted kinds.now self.new.lemmas self.new.places) }
-        ensures visits { OnOk result (self.new.visits ≡ self.old.visits) }
+            ≡ self.old.lemmas ++ kept_at task.now.kinds.now.nets at.now.state gaps way.now ∷ []) }
+        ensures noted { OnOk result (IsNoted task.now.kinds.now self.new) }
     {
-        let lemma = kept_at(alloc, kinds.nets, &at.state, gaps, way)?;
-        self.places.add(alloc, at.code, self.lemmas.len())?;
+        let kinds = task.kinds;
+        let lemma = kept_at(task.alloc, kinds.nets, &at.state, gaps, way)?;
+        note(&mut self.bare, at.code, &lemma)?;
+        self.places.add(task.alloc, at.code, self.lemmas.len())?;
         self.lemmas.push(lemma)?;
         Ok(())
     }
 
-    /// Keeps a lemma for each of the ways.
-    pub(crate) fn keep(
+    /// Keeps a lemma for the way. The budget is spent where there is then one lemma too many.
+    pub(crate) fn keep_one<B: RowBound>(
         &mut self,
-        alloc: Global,
-        kinds: &Kinds,
+        task: &Task<B>,
         at: &Numbered,
         gaps: u32,
-        ways: &[NetTracks],
-    ) -> Result<(), NoMemory>
-        requires numbered { IsNumbered kinds.now at.now }
-        requires noted { AreNoted kinds.now self.old.lemmas self.old.places }
+        way: &NetTracks,
+    ) -> Result<(), Halt>
+        requires numbered { IsNumbered task.now.kinds.now at.now }
+        requires noted { IsNoted task.now.kinds.now self.old }
         ensures lemmas { OnOk result (self.new.lemmas
-            ≡ self.old.lemmas ++ map (kept_at kinds.now.nets at.now.state gaps) ways.now) }
-        ensures noted { OnOk result (AreNoted kinds.now self.new.lemmas self.new.places) }
-        ensures visits { OnOk result (self.new.visits ≡ self.old.visits) }
+            ≡ self.old.lemmas ++ kept_at task.now.kinds.now.nets at.now.state gaps way.now ∷ []) }
+        ensures noted { OnOk result (IsNoted task.now.kinds.now self.new) }
+        ensures few { OnOk result (length self.new.lemmas ≤ task.now.budget) }
+        ensures spent { IfErr result (λ halt. halt ≡ Spent → IsCutOff task.now.budget (self.old.lemmas
+            ++ kept_at task.now.kinds.now.nets at.now.state gaps way.now ∷ []) self.new.lemmas) }
     {
-        for way in ways {
-            self.keep_one(alloc, kinds, at, gaps, way)?;
+        self.add(task, at, gaps, way)?;
+        if task.budget < self.lemmas.len() as u64 {
+            return Err(Halt::Spent);
         }
         Ok(())
     }
 
-    /// Whether it keeps a lemma on the state, on as many gaps and on the way.
-    pub(crate) fn covers(&self, at: &Numbered, gaps: u32, way: &NetTracks) -> bool
-        requires { AreNotedAt self.now at.now }
-        ensures yes { IsTrue result → Any (CoversListed at.now.state gaps way.now) self.now.lemmas }
-        ensures no { result ≡ false → Any (CoversListed at.now.state gaps way.now) self.now.lemmas → ⊥ }
+    /// Keeps a lemma for each of the ways.
+    pub(crate) fn keep<B: RowBound>(
+        &mut self,
+        task: &Task<B>,
+        at: &Numbered,
+        gaps: u32,
+        ways: &[NetTracks],
+    ) -> Result<(), Halt>
+        requires numbered { IsNumbered task.now.kinds.now at.now }
+        requires noted { IsNoted task.now.kinds.now self.old }
+        requires few { length self.old.lemmas ≤ task.now.budget }
+        ensures lemmas { OnOk result (self.new.lemmas
+            ≡ self.old.lemmas ++ map (kept_at task.now.kinds.now.nets at.now.state gaps) ways.now) }
+        ensures noted { OnOk result (IsNoted task.now.kinds.now self.new) }
+        ensures few { OnOk result (length self.new.lemmas ≤ task.now.budget) }
+        ensures spent { IfErr result (λ halt. halt ≡ Spent → IsCutOff task.now.budget (self.old.lemmas
+            ++ map (kept_at task.now.kinds.now.nets at.now.state gaps) ways.now) self.new.lemmas) }
     {
-        let lemmas = self.lemmas.as_slice();
-        for place in self.places.at(at.code) {
-            if is_covered_at(lemmas, *place, &at.state, gaps, way) {
-                return true;
+        for way in ways {
+            match self.keep_one(task, at, gaps, way) {
+                Ok(()) => {}
+                Err(halt) => return Err(halt),
             }
         }
-        false
+        Ok(())
     }
 }

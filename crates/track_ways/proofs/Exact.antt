@@ -28,7 +28,7 @@ abbrev pub look : List NetTrack → NetNo → ℕ
 look [] net = 0
 look (t ∷ tracks) net = cond (t.net.0 == net.0) t.track (look tracks net)
 
-look_is : (tracks : List NetTrack) (t : NetTrack) → IsSingle tracks → Contains tracks t → look tracks t.net ≡ t.track
+pub look_is : (tracks : List NetTrack) (t : NetTrack) → IsSingle tracks → Contains tracks t → look tracks t.net ≡ t.track
 look_is [] t one there = absurd (contains_none t there)
 look_is (x ∷ xs) t one there = go (x.net.0 == t.net.0) refl (contains_cons x xs t there) (λ later. look_is xs t (λ a b ca cb s. one a b (contains_there x xs a ca) (contains_there x xs b cb) s) later)
   where
@@ -44,7 +44,7 @@ is_there : (tracks : List NetTrack) (t : NetTrack) → Contains tracks t → is_
 is_there tracks t there = test_there (λ (u : NetTrack). u.net.0 == t.net.0) tracks t there (eq-eqb t.net.0 t.net.0 refl)
 
 -- what was listed stays, and each net is filled in
-fills_keep : (limit : ℕ) (nets : List NetNo) (tracks way : List NetTrack) (t : NetTrack) → Contains (fills limit nets tracks) way → Contains tracks t → Contains way t
+pub fills_keep : (limit : ℕ) (nets : List NetNo) (tracks way : List NetTrack) (t : NetTrack) → Contains (fills limit nets tracks) way → Contains tracks t → Contains way t
 fills_keep limit [] tracks way t there at = subst (λ w. Contains w t) (contains_one tracks way there) at
 fills_keep limit (net ∷ nets) tracks way t there at =
     let p : Piece (λ j. fills limit nets (on_track net j ∷ tracks)) (range_with_len 0 limit) way = in_flat (λ j. fills limit nets (on_track net j ∷ tracks)) (range_with_len 0 limit) way there in

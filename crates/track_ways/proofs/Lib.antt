@@ -1,7 +1,9 @@
 pub mod Complete
 pub mod Exact
+pub mod Crowded
 pub mod Keys
 pub mod Listing
+pub mod Fits
 pub mod Nets
 pub mod Steps
 pub mod Tables
@@ -20,3 +22,5 @@ pub mod Behind
 pub mod Path
 pub mod Whole
 pub mod Failing
+pub mod Sound
+pub mod Checked

@@ -46,7 +46,7 @@ step_behind k s step steps nets fit leads net =
     let after : Completes k (state_after k s step) (map (column_of k) steps) = completes k (state_after k s step) steps nets leads.1 in
     behind_after k s step (map (column_of k) steps) net (unfold_from k s step (map (column_of k) steps) nets leads.0 after) after fit
 
-empty : {X : Type 0} (xs : List X) → ((x : X) → Contains xs x → ⊥) → xs ≡ []
+pub empty : {X : Type 0} (xs : List X) → ((x : X) → Contains xs x → ⊥) → xs ≡ []
 empty [] h = refl
 empty (x ∷ xs) h = absurd (h x (contains_here x xs))
 

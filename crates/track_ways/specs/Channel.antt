@@ -40,7 +40,7 @@ gates_from k (line ∷ lines) = gate_of k line.gate ++ gates_from (suc k) lines
 abbrev pub IsPlain : Line → Type 0
 IsPlain line = (net : NetNo) → is_net line.gate net ≡ true → (is_net line.p net ≡ false) × (is_net line.n net ≡ false)
 
--- these are the lines of the placement, one behind the other
+-- these are the lines of the placement, one after the other
 pub record AreLinesOf (placement : Placement) (lines : List Line) : Type 0 where
   pub nodes : placement.nodes ≡ nodes_from 0 lines
   pub gates : placement.gates ≡ gates_from 0 lines
@@ -62,7 +62,7 @@ pub record AreTrunks (placement : Placement) (pins : Pins) (track : NetNo → �
   pub spans : All (λ t. IsSpan placement t.net t.left t.right) trunks
   pub tracks : All (λ t. t.track ≡ track t.net) trunks
 
--- The tracks are below a limit, trunks on one of them have no line in common, and a net that stands above another has
+-- The tracks are below a limit, trunks on one of them have no line in common, and a net that is above another has
 -- the higher track; some tracks may be empty.
 pub record AreLegalWithin (placement : Placement) (pins : Pins) (limit : ℕ) (trunks : List Trunk) : Type 0 where
   pub low : All (λ t. t.track < limit) trunks

@@ -1,4 +1,4 @@
--- States from which no completion with so many further gaps has tracks below a limit.
+-- States from which no completion with that many further gaps has tracks below a limit.
 use Rattle.std.specs.Prelude.{ℕ, ◌≤◌, List, map}
 use Rattle.cell_num.specs.declared.net.NetNo.{NetNo}
 use Rattle.cell_num.specs.declared.net.Pins.{Pins}
@@ -9,7 +9,7 @@ use Rattle.row_state.specs.Completion.{further_gaps}
 use Rattle.row_state.specs.Steps.{column_of}
 use Rattle.track_ways.specs.Paths.{Runs, Leads}
 
--- no completion of the state with at most so many further gaps has tracks that go on from these
+-- no completion of the state with at most that many further gaps has tracks that go on from these
 abbrev pub Fails : Pins → ℕ → Kinds → State → (NetNo → ℕ) → ℕ → Type 0
 Fails pins limit k s track gaps =
     (steps : List Step) → Leads k s steps → further_gaps s (map (column_of k) steps) ≤ gaps

@@ -28,7 +28,7 @@ with_line before line net = before net || has_place line net
 abbrev pub is_rail : Pins → NetNo → Bool
 is_rail pins net = (net.0 == pins.vdd.0) || (net.0 == pins.gnd.0)
 
--- Open between two lines: the net has a place before and one behind, so a trunk of it goes through.
+-- Open between two lines: the net has a place before and one after, so a trunk of it goes through.
 abbrev pub is_open : Pins → (NetNo → Bool) → (NetNo → Bool) → NetNo → Bool
 is_open pins before behind net = not (is_rail pins net) && (before net && behind net)
 
@@ -71,7 +71,7 @@ Sweeps pins limit before track (line ∷ rest) =
     (next : NetNo → ℕ) × Agrees pins before (is_ahead (line ∷ rest)) track next
     × LineFits pins limit next before line (is_ahead rest) × Sweeps pins limit (with_line before line) next rest
 
--- The same through some lines, from tracks before them to tracks behind them; `behind` has the nets with a place behind
+-- The same through some lines, from tracks before them to tracks after them; `behind` has the nets with a place after
 -- them.
 abbrev pub Passes : Pins → ℕ → (NetNo → Bool) → (NetNo → ℕ) → List Line → (NetNo → Bool) → (NetNo → ℕ) → Type 0
 Passes pins limit before track [] behind last = Agrees pins before behind track last

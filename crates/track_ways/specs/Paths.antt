@@ -1,4 +1,4 @@
--- Tracks along a path of states: the tracks of the nets that are open behind a state go on through its next columns.
+-- Tracks along a path of states: the tracks of the nets that are open after a state go on through its next columns.
 use Rattle.std.specs.Prelude.{ℕ, ◌+◌, ◌≤◌, false, List, [], ◌∷◌, ◌++◌}
 use Rattle.cell_num.specs.declared.net.NetNo.{NetNo}
 use Rattle.cell_num.specs.declared.net.Pins.{Pins}
@@ -18,7 +18,7 @@ use Rattle.track_ways.specs.States.{touched_left, touched_here, is_behind, is_st
 abbrev pub lines_to : State → Column → List Line
 lines_to s c = lines_between s.p_end s.n_end c ++ gate_line c ∷ []
 
--- from the tracks before a next column to those behind it
+-- from the tracks before a next column to those after it
 abbrev pub Goes : Pins → ℕ → Kinds → State → (NetNo → ℕ) → Step → (NetNo → ℕ) → Type 0
 Goes pins limit k s track step next =
     Passes pins limit (is_behind k s) track (lines_to s (column_of k step))
@@ -35,7 +35,7 @@ Runs pins limit k s track [] = Ends pins limit k s track
 Runs pins limit k s track (step ∷ steps) =
     (next : NetNo → ℕ) × Goes pins limit k s track step next × Runs pins limit k (state_after k s step) next steps
 
--- possible next columns, one behind the other, until no finger is left
+-- possible next columns, one after the other, until no finger is left
 abbrev pub Leads : Kinds → State → List Step → Type 0
 Leads k s [] = Completes k s []
 Leads k s (step ∷ steps) = IsPossible k s step × Leads k (state_after k s step) steps

@@ -23,7 +23,7 @@ node_line p n = record { p = p; n = n; gate = None }
 abbrev pub gate_line : Column → Line
 gate_line c = record { p = None; n = None; gate = gate_in c.p c.n }
 
--- a gap stands between these open ends and the column
+-- there is a gap between these open ends and the column
 abbrev pub is_gap_behind : Option NetNo → Option NetNo → Column → Bool
 is_gap_behind p n c = end_differs p c.p || end_differs n c.n
 
@@ -44,7 +44,7 @@ abbrev pub lines_before : Option NetNo → Option NetNo → List Column → List
 lines_before p n [] = []
 lines_before p n (c ∷ cs) = lines_between p n c ++ gate_line c ∷ lines_before (right_end c.p) (right_end c.n) cs
 
--- the open end behind some columns
+-- the open end after some columns
 abbrev pub end_after : Row → Option NetNo → List Column → Option NetNo
 end_after row end [] = end
 end_after row end (c ∷ cs) = end_after row (right_end (place row c)) cs

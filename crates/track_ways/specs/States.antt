@@ -1,4 +1,4 @@
--- Which nets are open behind a prefix, by its state alone.
+-- Which nets are open after a prefix, by its state alone.
 use Rattle.std.specs.Prelude.{ℕ, ◌≡◌, ◌+◌, ◌==◌, ◌&&◌, ltb, not, cond, Bool, List, None, sum_by, IsPermutation, ◌++◌}
 use Rattle.cell_num.specs.declared.net.NetNo.{NetNo}
 use Rattle.cell_num.specs.declared.net.Pins.{Pins}

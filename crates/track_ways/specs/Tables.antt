@@ -7,7 +7,7 @@ use Rattle.track_ways.specs.declared.line.Line.{Line}
 abbrev pub marked : List Bool → NetNo → Bool
 marked table net = flag table net.0
 
--- the net of a place, if there is one, has an entry in a table of so many
+-- the net of a place, if there is one, has an entry in a table of this length
 abbrev pub HasEntry : ℕ → Option NetNo → Type 0
 HasEntry nets place = IfSome place (λ (net : NetNo). net.0 < nets)
 

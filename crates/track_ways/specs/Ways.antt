@@ -1,4 +1,4 @@
--- All tracks behind a next column, as lists over the nets that are open there.
+-- All tracks after a next column, as lists over the nets that are open there.
 use Rattle.std.specs.Prelude.{ℕ, ◌&&◌, ◌||◌, ◌==◌, ltb, not, cond, Bool, false, List, [], ◌∷◌, filter, map}
 use Rattle.std.specs.List.{flat_map, list_all, list_any, range_with_len}
 use Rattle.cell_num.specs.declared.net.NetNo.{NetNo}
@@ -58,7 +58,7 @@ abbrev pub line_ways :
 line_ways pins limit nets before line behind tracks =
     filter (line_test limit line) (fills limit (missing pins before line behind nets tracks) tracks)
 
--- the tracks behind some lines, of nets in this list
+-- the tracks after some lines, of nets in this list
 abbrev pub pass_ways :
     Pins → ℕ → List NetNo → (NetNo → Bool) → List Line → (NetNo → Bool) → List NetTrack → List (List NetTrack)
 pass_ways pins limit nets before [] behind tracks = open_of pins before behind tracks ∷ []
@@ -67,17 +67,17 @@ pass_ways pins limit nets before (line ∷ rest) behind tracks =
     (line_ways pins limit nets before line (λ net. is_ahead rest net || behind net)
     (open_of pins before (λ net. is_ahead (line ∷ rest) net || behind net) tracks))
 
--- those behind a next column
+-- those after a next column
 abbrev pub goes_ways : Pins → ℕ → Kinds → State → List NetTrack → Step → List (List NetTrack)
 goes_ways pins limit k s tracks step =
     pass_ways pins limit (nets_below k.nets) (is_behind k s) (lines_to s (column_of k step))
     (is_still_ahead k (state_after k s step)) tracks
 
--- and those behind the last line
+-- and those after the last line
 abbrev pub ends_ways : Pins → ℕ → Kinds → State → List NetTrack → List (List NetTrack)
 ends_ways pins limit k s tracks =
     pass_ways pins limit (nets_below k.nets) (is_behind k s) (node_line s.p_end s.n_end ∷ []) (λ net. false) tracks
 
--- the nets with a place before the state behind a next column
+-- the nets with a place before the state after a next column
 abbrev pub is_behind_step : Kinds → State → Step → NetNo → Bool
 is_behind_step k s step net = is_behind k s net || is_ahead (lines_to s (column_of k step)) net

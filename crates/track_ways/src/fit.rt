@@ -36,6 +36,15 @@ fn fits_with(limit: u32, line: &Line, t: &NetTrack, tracks: &[NetTrack]) -> bool
     t.track < limit && are_all_apart(line, t, tracks)
 }
 
+/// Whether the track of a net goes with all of these at the line.
+pub(crate) fn goes_with(line: &Line, t: &NetTrack, tracks: &[NetTrack]) -> bool
+    ensures { result ≡ list_all (λ u. are_apart line.now t.now u && are_apart line.now u t.now) tracks.now }
+{
+    tracks
+        .iter()
+        .all(|u| are_apart(line, t, u) && are_apart(line, u, t))
+}
+
 /// Whether the tracks fit the line.
 pub(crate) fn do_fit(limit: u32, line: &Line, tracks: &[NetTrack]) -> bool
     ensures { result ≡ line_test limit line.now tracks.now }

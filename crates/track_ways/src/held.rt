@@ -22,7 +22,8 @@ pub(crate) fn has_place(line: &Line, net: NetNo) -> bool
     is_net(&line.p, net) || (is_net(&line.n, net) || is_net(&line.gate, net))
 }
 
-fn is_marked(table: &[bool; NETS], net: NetNo) -> bool
+/// Whether the table has the net.
+pub fn is_marked(table: &[bool; NETS], net: NetNo) -> bool
     ensures { result ≡ marked table.now net }
 {
     match table.get(net.0 as usize) {
@@ -31,7 +32,8 @@ fn is_marked(table: &[bool; NETS], net: NetNo) -> bool
     }
 }
 
-fn is_rail(pins: &Pins, net: NetNo) -> bool
+/// Whether the net is one of the rails.
+pub fn is_rail(pins: &Pins, net: NetNo) -> bool
     ensures { result ≡ is_rail pins.now net }
 {
     net.0 == pins.vdd.0 || net.0 == pins.gnd.0
@@ -87,6 +89,10 @@ pub(crate) fn is_held(
         (λ n. is_ahead rest.now n || marked behind.now n) net }
 {
     let earlier = is_marked(before, net);
+    // (most nets have no place so far, and that is quickly seen)
+    if is_rail(pins, net) || !(earlier || has_place(line, net)) {
+        return false;
+    }
     let later = is_later(rest, behind, net);
-    !is_rail(pins, net) && ((earlier && later) || begins_or_ends(pins, earlier, line, later, net))
+    (earlier && later) || begins_or_ends(pins, earlier, line, later, net)
 }

@@ -1,20 +1,28 @@
 // Tracks line by line: which trunks hold a line, which nets are open after a prefix of a row, and the tracks that
-// they may have after a next column, as a finite list.
+// they may have after a next column, as a finite list. Lemmas that no tracks go on from a state.
 #![tactic(auto)]
 
+mod crowds;
 mod fit;
 mod held;
 pub mod laws;
+pub mod lemma;
+pub mod lemma_laws;
 pub mod line;
 pub mod line_laws;
 mod line_ways;
+mod lines;
 pub mod net_laws;
 pub mod passing;
 pub mod stepping;
 mod table;
 pub mod track;
 
+pub use crowds::{end_uncrowded, step_uncrowded};
+pub use held::{is_marked, is_rail};
 pub use laws::tracks_listed;
+pub use lemma::{TrackLemma, TrackLemmas};
+pub use lemma_laws::{lemmas_checked, tracks_by_lemmas};
 pub use line::Line;
 pub use line_laws::{legal_by_lines, rows_by_lines, tracks_by_lines, trunks_by_wires};
 pub use net_laws::{failures, open_by_states, tracks_by_states};

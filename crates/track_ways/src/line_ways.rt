@@ -1,13 +1,13 @@
 // The tracks at a line, from those of the nets that are open before it.
-ghost use Rattle.std.specs.Prelude.{◌≡◌, ◌≤◌, ◌∷◌, ◌++◌, ◌||◌, filter, IfOk, OnOk};
+ghost use Rattle.std.specs.Prelude.{◌≡◌, ◌∷◌, ◌++◌, ◌||◌, filter, true, IfOk, OnOk};
 ghost use Rattle.track_ways.specs.Lines.{is_ahead};
 ghost use Rattle.track_ways.specs.Tables.{marked};
-ghost use Rattle.track_ways.specs.Ways.{fills, line_test, line_ways, missing, nets_below, on_track, open_of};
+ghost use Rattle.track_ways.specs.Ways.{fills, line_test, line_ways, missing, nets_below, open_of};
 
-use crate::fit::{do_fit, is_listed};
+use crate::fit::{do_fit, goes_with, is_listed};
 use crate::held::{is_held, is_open};
 use crate::line::Line;
-use crate::{NetTrack, NetTracks, TrackWays};
+use crate::{NetTrack, TrackWays};
 use cell_num::{List, NetNo, NoMemory, Pins};
 use row_trails::NETS;
 use std::alloc::{AllocError, Global};
@@ -53,49 +53,43 @@ fn missing_nets(
         .collect(alloc)
 }
 
+// These tracks, and one of another net before them.
 fn with_track(
     alloc: Global,
-    net: NetNo,
-    track: u32,
+    here: NetTrack,
     tracks: &[NetTrack],
 ) -> Result<Vec<NetTrack>, AllocError>
-    ensures { IfOk result (λ longer. longer.items ≡ on_track net track ∷ tracks.now) }
+    ensures { IfOk result (λ longer. longer.items ≡ here ∷ tracks.now) }
 {
-    let mut longer = Vec::new(alloc);
-    longer.push(NetTrack { net, track })?;
+    let mut longer = Vec::with_capacity(alloc, tracks.len().saturating_add(1))?;
+    longer.push(here)?;
     longer.extend_from_slice(tracks)?;
     Ok(longer)
 }
 
-fn copied(alloc: Global, tracks: &[NetTrack]) -> Result<NetTracks, NoMemory>
-    ensures { IfOk result (λ copy. copy ≡ tracks.now) }
-{
-    let mut copy = Vec::new(alloc);
-    copy.extend_from_slice(tracks)?;
-    Ok(List::from_vec(copy))
-}
-
-// Each way to give the nets tracks that fit the line.
+// Each way to give the nets tracks that fit the line. A track that doesn't go with those before it is dropped at once.
 #[tactic(auto, using(crate::proofs::Listing::fits_more, crate::proofs::Listing::fits_whole))]
 fn add_fills(
     alloc: Global,
     limit: u32,
     line: &Line,
     nets: &[NetNo],
-    tracks: &[NetTrack],
+    tracks: Vec<NetTrack>,
     ways: &mut TrackWays,
 ) -> Result<(), NoMemory>
-    ensures { OnOk result (ways.new ≡ ways.old ++ filter (line_test limit line.now) (fills limit nets.now tracks.now)) }
+    requires fit { line_test limit line.now tracks.items ≡ true }
+    ensures { OnOk result (ways.new ≡ ways.old ++ filter (line_test limit line.now) (fills limit nets.now tracks.items)) }
 {
     let Some((net, rest)) = nets.split_first() else {
-        if do_fit(limit, line, tracks) {
-            ways.push(copied(alloc, tracks)?)?;
-        }
+        ways.push(List::from_vec(tracks))?;
         return Ok(());
     };
     for track in 0..limit {
-        let longer = with_track(alloc, *net, track, tracks)?;
-        add_fills(alloc, limit, line, rest, &longer, ways)?;
+        let here = NetTrack { net: *net, track };
+        if goes_with(line, &here, &tracks) {
+            let longer = with_track(alloc, here, &tracks)?;
+            add_fills(alloc, limit, line, rest, longer, ways)?;
+        }
     }
     Ok(())
 }
@@ -110,13 +104,16 @@ pub(crate) fn tracks_at(
     line: &Line,
     rest: &[Line],
     behind: &[bool; NETS],
-    tracks: &[NetTrack],
+    tracks: Vec<NetTrack>,
 ) -> Result<TrackWays, NoMemory>
     ensures { IfOk result (λ ways. ways ≡ line_ways pins.now limit (nets_below nets) (marked before.now) line.now
-        (λ n. is_ahead rest.now n || marked behind.now n) tracks.now) }
+        (λ n. is_ahead rest.now n || marked behind.now n) tracks.items) }
 {
-    let missing = missing_nets(alloc, pins, nets, before, line, rest, behind, tracks)?;
     let mut ways = TrackWays::new(alloc);
+    if !do_fit(limit, line, &tracks) {
+        return Ok(ways);
+    }
+    let missing = missing_nets(alloc, pins, nets, before, line, rest, behind, &tracks)?;
     add_fills(alloc, limit, line, &missing, tracks, &mut ways)?;
     Ok(ways)
 }

@@ -34,7 +34,7 @@ fn add_ways(
         ways.push(List::from_vec(kept))?;
         return Ok(());
     };
-    let here = tracks_at(alloc, pins, limit, nets, before, line, rest, behind, &kept)?;
+    let here = tracks_at(alloc, pins, limit, nets, before, line, rest, behind, kept)?;
     let after = with_line(before, line);
     for way in here.as_slice() {
         add_ways(

@@ -1,7 +1,7 @@
 use Rattle.std.proofs.Common.{◌↔◌, subst, take, ◌∙◌}
 use Rattle.std.specs.Prelude.{IsTrue}
 use Rattle.std.proofs.lemmas.List.{get_or_default}
-use Rattle.track_lemmas.specs.Certificate.{IsJustified}
+use Rattle.track_ways.specs.Certificate.{IsJustified}
 use Rattle.track_check.proofs.check.is_justified_at.Goals as goal
 
 pub returns : goal.returns

@@ -1,4 +1,4 @@
-use Rattle.std.proofs.Common.{arith}
+use Rattle.std.proofs.Common.{All, Contains, arith, subst, sym}
 use Rattle.track_check.proofs.Loops.{no_from, not_both}
 use Rattle.track_check.proofs.known.covers.Goals as goal
 
@@ -10,6 +10,6 @@ returns-then-lemma-gaps c = no_from (λ h. absurd (omega (arith, h.enough, c.if-
 
 pub returns : goal.returns
 returns c = (
-  λ e. record { state = c.is_same.ensures.0 c.if-not-is_same.false; enough = omega (arith, c.if-lemma-gaps.false); tracks = c.lists.ensures.0 e },
-  λ h. c.lists.ensures.1 h.tracks,
+  λ e. record { state = c.is_same.ensures.0 c.if-not-is_same.false; enough = omega (arith, c.if-lemma-gaps.false); tracks = subst (All (Contains c.args.way.now)) c.as_slice.ensures (c.lists.ensures.0 e) },
+  λ h. c.lists.ensures.1 (subst (All (Contains c.args.way.now)) (sym c.as_slice.ensures) h.tracks),
 )

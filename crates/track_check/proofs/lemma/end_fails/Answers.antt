@@ -5,6 +5,9 @@ use Rattle.track_check.proofs.lemma.end_fails.Goals as goal
 pub returns-then-has_fingers : goal.returns-then-has_fingers
 returns-then-has_fingers g c = yes_from (λ none. absurd (none ((c.has_fingers.ensures c.args.grounds.now.kinds.now c.requires.valid).0 c.if-has_fingers.true)))
 
+pub returns-then-not-branch : goal.returns-then-not-branch
+returns-then-not-branch g c = yes_from (λ none. c.in_ok-end_uncrowded.ensures.crowded c.if-not-branch.true c.args.lemma.now.tracks)
+
 pub returns : goal.returns
 returns g c = (
   λ e none. sym c.in_ok-ways.ensures ∙ c.is_empty.ensures.0 e,

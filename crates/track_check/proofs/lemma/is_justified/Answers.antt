@@ -1,7 +1,7 @@
 use Rattle.std.proofs.Common.{◌↔◌}
-use Rattle.track_lemmas.specs.Certificate.{IsJustified}
-use Rattle.track_lemmas.specs.Checked.{IsJustifiedListed}
-use Rattle.track_lemmas.proofs.Checked.{justified_decided}
+use Rattle.track_ways.specs.Certificate.{IsJustified}
+use Rattle.track_ways.specs.Checked.{IsJustifiedListed}
+use Rattle.track_ways.proofs.Checked.{justified_decided}
 use Rattle.track_check.proofs.Loops.{no_from, not_both}
 use Rattle.track_check.proofs.lemma.is_justified.Goals as goal
 
@@ -13,5 +13,5 @@ returns-then-not-is_state-clause-justified g c = λ valid. no_from (λ j. not_bo
 
 pub returns-clause-justified : goal.returns-clause-justified
 returns-clause-justified g c = λ valid.
-    let d : IsJustified (g.B.RowBound.value c.args.grounds.now.bound.now) c.args.grounds.now.pins.now c.args.grounds.now.limit c.args.grounds.now.kinds.now c.args.earlier.now c.args.lemma.now ↔ IsJustifiedListed (g.B.RowBound.value c.args.grounds.now.bound.now) c.args.grounds.now.pins.now c.args.grounds.now.limit c.args.grounds.now.kinds.now c.args.earlier.now c.args.lemma.now = justified_decided (g.B.RowBound.value c.args.grounds.now.bound.now) c.args.grounds.now.pins.now c.args.grounds.now.limit c.args.grounds.now.kinds.now c.args.earlier.now c.args.lemma.now c.show_limits.ensures valid in
+    let d : IsJustified (g.B.RowBound.value c.args.grounds.now.bound.now) c.args.grounds.now.pins.now c.args.grounds.now.limit c.args.grounds.now.kinds.now c.args.earlier.now.lemmas.now c.args.lemma.now ↔ IsJustifiedListed (g.B.RowBound.value c.args.grounds.now.bound.now) c.args.grounds.now.pins.now c.args.grounds.now.limit c.args.grounds.now.kinds.now c.args.earlier.now.lemmas.now c.args.lemma.now = justified_decided (g.B.RowBound.value c.args.grounds.now.bound.now) c.args.grounds.now.pins.now c.args.grounds.now.limit c.args.grounds.now.kinds.now c.args.earlier.now.lemmas.now c.args.lemma.now c.show_limits.ensures valid in
     ((λ e. d.1 (c.in_ok-justified.ensures.0 e)), (λ j. c.in_ok-justified.ensures.1 (d.0 j)))

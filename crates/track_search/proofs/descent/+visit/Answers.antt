@@ -1,4 +1,4 @@
-use Rattle.std.proofs.Common.{rules, ◌≡◌, ◌≤◌, ◌<◌, ◌+◌, ◌++◌, All, None, ap, arith, get_or, length, map, refl, reverse, subst, sym, take, ◌∙◌}
+use Rattle.std.proofs.Common.{rules, ◌≡◌, ◌≤◌, ◌<◌, ◌+◌, ◌++◌, All, Any, None, ap, arith, get_or, map, refl, reverse, subst, sym, take, ◌∙◌}
 use Rattle.std.proofs.lemmas.List.Elements.{All-more, All-nil}
 use Rattle.row_state.specs.declared.candidate.Candidate.{Candidate}
 use Rattle.row_state.specs.declared.state.State.{State}
@@ -6,30 +6,67 @@ use Rattle.row_state.specs.Candidates.{IsNumbered}
 use Rattle.row_state.specs.Start.{columns_left}
 use Rattle.row_state.proofs.Calls.{fewer_after}
 use Rattle.row_state.proofs.Valid.{gates_are_nets}
+use Rattle.track_ways.specs.Certificate.{CoversAll}
 use Rattle.track_ways.specs.Paths.{EndsFit}
-use Rattle.track_lemmas.specs.Certificate.{AreJustified}
+use Rattle.track_check.specs.Noted.{AreNotedAt}
+use Rattle.track_check.proofs.Noted.{noted_here}
 use Rattle.track_search.specs.First.{IsFirstRouted}
-use Rattle.track_search.specs.Kept.{AreNew}
-use Rattle.track_search.specs.Noted.{AreNoted}
-use Rattle.track_search.specs.Visit.{AlwaysFails, AreBelow, AreCounted, AreCovered, AreFresh, AreWaysAt, IsAhead, kept_at}
+use Rattle.track_search.specs.Kept.{AreKept}
+use Rattle.track_search.specs.Visit.{AlwaysFails, AreBelow, AreCovered, AreFresh, AreTaken, AreWaysAt, IsAhead, IsKept, kept_at}
 use Rattle.track_search.proofs.Found.{first_at_end, first_through}
-use Rattle.track_search.proofs.Grown.{WaysFail, ahead_fails, always_fails, cut_on, grown_above, grown_same, grown_through, kept_covers, kept_grown, ways_fail_more}
-use Rattle.track_search.proofs.Kept.{ways_below}
-use Rattle.track_search.proofs.Noted.{noted_here}
+use Rattle.track_search.proofs.Grown.{WaysFail, ahead_fails, always_fails, closed_fails, grown_above, grown_same, grown_through, kept_covers, kept_grown, kept_sound, kept_spent, ways_fail_more}
+use Rattle.track_search.proofs.Kept.{of_open, ways_below}
 use Rattle.track_search.proofs.Ways.{ends_fit_after, ways_after}
 use Rattle.track_search.proofs.descent.+visit.Goals as goal
 
 blank : Candidate
 blank = record { step = record { p = None; n = None }; column = record { p = None; n = None }; rows = 0; ends = 0; p_from = 0; n_from = 0 }
 
+pub returns-then-len-eq0-clause-grown : goal.returns-then-len-eq0-clause-grown
+returns-then-len-eq0-clause-grown g t c = grown_same (g.B.RowBound.value c.args.task.now.bound.now) c.args.task.now.pins.now c.args.task.now.limit c.args.task.now.kinds.now c.args.task.now.gaps c.args.task.now.budget (columns_left c.args.task.now.kinds.now c.args.at.now.state + 1) c.args.progress.now c.args.progress.now c.requires.kept refl
+
+pub returns-then-branch-clause-grown : goal.returns-then-branch-clause-grown
+returns-then-branch-clause-grown g t c = grown_same (g.B.RowBound.value c.args.task.now.bound.now) c.args.task.now.pins.now c.args.task.now.limit c.args.task.now.kinds.now c.args.task.now.gaps c.args.task.now.budget (columns_left c.args.task.now.kinds.now c.args.at.now.state + 1) c.args.progress.now c.args.progress.now c.requires.kept refl
+
 pub returns-then-branch-clause-first : goal.returns-then-branch-clause-first
 returns-then-branch-clause-first g t c = first_at_end c.args.task.now.pins.now c.args.task.now.limit c.args.task.now.kinds.now c.args.at.now.state c.args.ways.now c.args.allowed c.new.result c.show_limits.ensures c.requires.numbered.valid c.requires.ways (c.in_ok-ends.ensures.yes c.if-branch.true) c.new.ensures
+
+pub loop-next-init : goal.loop-next-init
+loop-next-init g t c = (
+  grown_same (g.B.RowBound.value c.args.task.now.bound.now) c.args.task.now.pins.now c.args.task.now.limit c.args.task.now.kinds.now c.args.task.now.gaps c.args.task.now.budget (columns_left c.args.task.now.kinds.now c.args.at.now.state) c.args.progress.now c.args.progress.now c.requires.kept refl,
+  All-nil (WaysFail (g.B.RowBound.value c.args.task.now.bound.now) c.args.task.now.pins.now c.args.task.now.limit c.args.task.now.kinds.now c.args.progress.now.lemmas c.args.at.now.state c.args.allowed c.args.ways.now),
+)
 
 pub loop-next-preserved-in_default : goal.loop-next-preserved-in_default
 unfolding blank
 loop-next-preserved-in_default g t c =
     let fails : AlwaysFails (g.B.RowBound.value c.args.task.now.bound.now) c.args.task.now.pins.now c.args.task.now.limit c.args.task.now.kinds.now c.args.at.now.state c.args.allowed (get_or c.args.task.now.candidates.now c.loop-next.next-index blank).step = rw c.in_default.is at c.in_ok-ahead.ensures.none in
-    (c.loop-next.invariant.0, always_fails (g.B.RowBound.value c.args.task.now.bound.now) c.args.task.now.pins.now c.args.task.now.limit c.args.task.now.kinds.now c.loop-next.progress.lemmas c.args.at.now.state c.args.allowed c.args.ways.now c.args.task.now.candidates.now c.loop-next.next-index blank c.loop-next-test.true c.loop-next.invariant.1 fails, c.loop-next.invariant.2)
+    (c.loop-next.invariant.0, always_fails (g.B.RowBound.value c.args.task.now.bound.now) c.args.task.now.pins.now c.args.task.now.limit c.args.task.now.kinds.now c.loop-next.progress.lemmas c.args.at.now.state c.args.allowed c.args.ways.now c.args.task.now.candidates.now c.loop-next.next-index blank c.loop-next-test.true c.loop-next.invariant.1 fails)
+
+pub closes-requires-clause-ends : goal.closes-requires-clause-ends
+unfolding blank
+closes-requires-clause-ends g t c =
+    let a : IsAhead c.args.task.now.kinds.now c.args.at.now.state c.args.allowed (get_or c.args.task.now.candidates.now c.loop-next.next-index blank).step c.in-Some.ahead = rw c.in-Some.is at c.in_ok-ahead.ensures.some in
+    subst (EndsFit c.args.task.now.kinds.now) (sym a.state) (ends_fit_after c.args.task.now.kinds.now c.args.at.now.state (get_or c.args.task.now.candidates.now c.loop-next.next-index blank).step (gates_are_nets c.args.task.now.kinds.now c.show_limits.ensures) c.requires.ends a.possible)
+
+pub loop-next-preserved-then-closed : goal.loop-next-preserved-then-closed
+unfolding blank
+loop-next-preserved-then-closed g t c =
+    let a : IsAhead c.args.task.now.kinds.now c.args.at.now.state c.args.allowed (get_or c.args.task.now.candidates.now c.loop-next.next-index blank).step c.in-Some.ahead = rw c.in-Some.is at c.in_ok-ahead.ensures.some in
+    let fewer : columns_left c.args.task.now.kinds.now c.args.at.now.state ≡ columns_left c.args.task.now.kinds.now c.in-Some.ahead.state.state + 1 = fewer_after c.args.task.now.kinds.now c.args.at.now.state (get_or c.args.task.now.candidates.now c.loop-next.next-index blank).step c.show_limits.ensures a.possible ∙ ap (λ (z : State). columns_left c.args.task.now.kinds.now z + 1) (sym a.state) in
+    let any : Any (CoversAll c.in-Some.ahead.state.state c.in-Some.ahead.left) c.closes.new.progress.lemmas = c.in-Ok.ensures.closed c.if-closed.true in (
+      grown_through (g.B.RowBound.value c.args.task.now.bound.now) c.args.task.now.pins.now c.args.task.now.limit c.args.task.now.kinds.now c.args.task.now.gaps c.args.task.now.budget (columns_left c.args.task.now.kinds.now c.args.at.now.state) (columns_left c.args.task.now.kinds.now c.in-Some.ahead.state.state) c.args.progress.now c.loop-next.progress c.closes.new.progress fewer c.loop-next.invariant.0 c.in-Ok.ensures.grown,
+      All-more (WaysFail (g.B.RowBound.value c.args.task.now.bound.now) c.args.task.now.pins.now c.args.task.now.limit c.args.task.now.kinds.now c.closes.new.progress.lemmas c.args.at.now.state c.args.allowed c.args.ways.now) c.args.task.now.candidates.now c.loop-next.next-index blank c.loop-next-test.true
+          (ways_fail_more (g.B.RowBound.value c.args.task.now.bound.now) c.args.task.now.pins.now c.args.task.now.limit c.args.task.now.kinds.now c.loop-next.progress.lemmas c.closes.new.progress.lemmas c.in-Ok.ensures.grown.more c.args.at.now.state c.args.allowed c.args.ways.now (take c.loop-next.next-index c.args.task.now.candidates.now) c.in-Ok.ensures.grown.is c.loop-next.invariant.1)
+          (closed_fails (g.B.RowBound.value c.args.task.now.bound.now) c.args.task.now.pins.now c.args.task.now.limit c.args.task.now.kinds.now c.closes.new.progress.lemmas c.args.at.now.state c.args.allowed c.args.ways.now (get_or c.args.task.now.candidates.now c.loop-next.next-index blank).step c.in-Some.ahead a any),
+    )
+
+pub onward_ways-requires-clause-noted : goal.onward_ways-requires-clause-noted
+unfolding blank
+onward_ways-requires-clause-noted g t c =
+    let a : IsAhead c.args.task.now.kinds.now c.args.at.now.state c.args.allowed (get_or c.args.task.now.candidates.now c.loop-next.next-index blank).step c.in-Some.ahead = rw c.in-Some.is at c.in_ok-ahead.ensures.some in
+    let here : AreNotedAt c.closes.new.progress.lemmas c.closes.new.progress.places c.in-Some.ahead.state = noted_here c.args.task.now.kinds.now c.closes.new.progress.lemmas c.closes.new.progress.places c.in-Some.ahead.state a.numbered.code c.in-Ok.ensures.grown.kept.noted.places in
+    subst (λ ls. AreNotedAt ls c.noted.result.places.now c.in-Some.ahead.state) (sym c.noted.ensures.lemmas) (subst (λ ps. AreNotedAt c.closes.new.progress.lemmas ps c.in-Some.ahead.state) (sym c.noted.ensures.places) here)
 
 pub visit-requires : goal.visit-requires
 unfolding blank
@@ -40,88 +77,59 @@ visit-requires g t c κs within =
     let numbered : IsNumbered c.args.task.now.kinds.now c.in-Some.ahead.state = a.numbered in
     let ends : EndsFit c.args.task.now.kinds.now c.in-Some.ahead.state.state = subst (EndsFit c.args.task.now.kinds.now) (sym a.state) (ends_fit_after c.args.task.now.kinds.now c.args.at.now.state (get_or c.args.task.now.candidates.now c.loop-next.next-index blank).step (gates_are_nets c.args.task.now.kinds.now c.show_limits.ensures) c.requires.ends a.possible) in
     let ways : AreWaysAt c.args.task.now.pins.now c.args.task.now.kinds.now c.in-Some.ahead.state.state c.in_ok-onward.onward = subst (λ z. AreWaysAt c.args.task.now.pins.now c.args.task.now.kinds.now z c.in_ok-onward.onward) (sym a.state) (ways_after c.args.task.now.pins.now c.args.task.now.limit c.args.task.now.kinds.now c.args.at.now.state (get_or c.args.task.now.candidates.now c.loop-next.next-index blank).step c.args.ways.now c.in_ok-onward.onward c.show_limits.ensures c.requires.numbered.valid c.requires.ends a.possible c.requires.ways c.in_ok-onward.ensures.from) in
-    let visits : c.loop-next.progress.visits ≤ c.args.task.now.budget = c.loop-next.invariant.0.visits in
-    let justified : AreJustified (g.B.RowBound.value c.args.task.now.bound.now) c.args.task.now.pins.now c.args.task.now.limit c.args.task.now.kinds.now c.loop-next.progress.lemmas = c.loop-next.invariant.0.justified in
     let below : All (AreBelow c.args.task.now.limit) c.in_ok-onward.onward = ways_below c.args.task.now.pins.now c.args.task.now.limit c.args.task.now.kinds.now c.args.at.now.state (get_or c.args.task.now.candidates.now c.loop-next.next-index blank).step c.args.ways.now c.in_ok-onward.onward c.requires.below c.in_ok-onward.ensures.from in
-    let fresh : AreFresh c.loop-next.progress.lemmas c.in-Some.ahead.state.state c.in-Some.ahead.left c.in_ok-onward.onward = c.in_ok-onward.ensures.fresh in
-    let own : AreNew c.loop-next.progress.lemmas = c.loop-next.invariant.0.own in
-    let noted : AreNoted c.args.task.now.kinds.now c.loop-next.progress.lemmas c.loop-next.progress.places = c.loop-next.invariant.0.noted in
+    let fresh : AreFresh c.closes.new.progress.lemmas c.in-Some.ahead.state.state c.in-Some.ahead.left c.in_ok-onward.onward = subst (λ ls. AreFresh ls c.in-Some.ahead.state.state c.in-Some.ahead.left c.in_ok-onward.onward) c.noted.ensures.lemmas c.in_ok-onward.ensures.fresh in
+    let gaps : c.in-Some.ahead.left ≤ c.args.task.now.gaps = omega (arith, a.left, c.requires.gaps) in
+    let kept : IsKept (g.B.RowBound.value c.args.task.now.bound.now) c.args.task.now.pins.now c.args.task.now.limit c.args.task.now.kinds.now c.args.task.now.gaps c.args.task.now.budget c.closes.new.progress = c.in-Ok.ensures.grown.kept in
     search rules
-
-pub onward_ways-requires-clause-noted : goal.onward_ways-requires-clause-noted
-unfolding blank
-onward_ways-requires-clause-noted g t c =
-    let a : IsAhead c.args.task.now.kinds.now c.args.at.now.state c.args.allowed (get_or c.args.task.now.candidates.now c.loop-next.next-index blank).step c.in-Some.ahead = rw c.in-Some.is at c.in_ok-ahead.ensures.some in
-    noted_here c.args.task.now.kinds.now c.loop-next.progress c.in-Some.ahead.state a.numbered.code c.loop-next.invariant.0.noted
-
-pub returns-in-Err-clause-spent : goal.returns-in-Err-clause-spent
-unfolding blank
-returns-in-Err-clause-spent g t c = λ e.
-    let a : IsAhead c.args.task.now.kinds.now c.args.at.now.state c.args.allowed (get_or c.args.task.now.candidates.now c.loop-next.next-index blank).step c.in-Some.ahead = rw c.in-Some.is at c.in_ok-ahead.ensures.some in
-    let fewer : columns_left c.args.task.now.kinds.now c.args.at.now.state ≡ columns_left c.args.task.now.kinds.now c.in-Some.ahead.state.state + 1 = fewer_after c.args.task.now.kinds.now c.args.at.now.state (get_or c.args.task.now.candidates.now c.loop-next.next-index blank).step c.show_limits.ensures a.possible ∙ ap (λ (z : State). columns_left c.args.task.now.kinds.now z + 1) (sym a.state) in
-    cut_on (g.B.RowBound.value c.args.task.now.bound.now) c.args.task.now.pins.now c.args.task.now.limit c.args.task.now.kinds.now c.args.task.now.budget (columns_left c.args.task.now.kinds.now c.args.at.now.state) (columns_left c.args.task.now.kinds.now c.in-Some.ahead.state.state) c.args.allowed c.in-Some.ahead.left c.args.progress.now c.loop-next.progress c.visit.new.progress fewer (omega (arith, a.left)) c.loop-next.invariant.0 c.loop-next.invariant.2 (c.in-Err.ensures.spent e)
-
-pub returns-in-Some-tried-clause-first : goal.returns-in-Some-tried-clause-first
-unfolding blank
-returns-in-Some-tried-clause-first g t c =
-    let a : IsAhead c.args.task.now.kinds.now c.args.at.now.state c.args.allowed (get_or c.args.task.now.candidates.now c.loop-next.next-index blank).step c.in-Some.ahead = rw c.in-Some.is at c.in_ok-ahead.ensures.some in
-    let first : IsFirstRouted c.args.task.now.pins.now c.args.task.now.limit c.args.task.now.kinds.now c.in-Some.ahead.state.state c.in_ok-onward.onward c.in-Some.ahead.left (reverse c.in-Some-tried.rest) = rw c.in-Some-tried.is at c.in-Ok.ensures.first in
-    first_through (g.B.RowBound.value c.args.task.now.bound.now) c.args.task.now.pins.now c.args.task.now.limit c.args.task.now.kinds.now c.loop-next.progress.lemmas c.args.at.now.state c.args.ways.now c.in_ok-onward.onward c.args.allowed c.in-Some.ahead c.args.task.now.candidates.now c.loop-next.next-index blank c.in-Some-tried.rest c.push.new.self c.show_limits.ensures (λ row s valid. g.met.B.RowBound.holds c.args.task.now.bound.now row s c.args.task.now.kinds.now c.show_limits.ensures valid) c.loop-next.invariant.0.justified c.requires.numbered.valid c.requires.candidates c.requires.ways
-    (ways_after c.args.task.now.pins.now c.args.task.now.limit c.args.task.now.kinds.now c.args.at.now.state (get_or c.args.task.now.candidates.now c.loop-next.next-index blank).step c.args.ways.now c.in_ok-onward.onward c.show_limits.ensures c.requires.numbered.valid c.requires.ends a.possible c.requires.ways c.in_ok-onward.ensures.from)
-    c.loop-next-test.true c.loop-next.invariant.1 a c.in_ok-onward.ensures.taken c.in_ok-onward.ensures.from first c.in_ok-push.ensures.ok
-
-pub loop-next-preserved : goal.loop-next-preserved
-unfolding blank
-loop-next-preserved g t c =
-    let a : IsAhead c.args.task.now.kinds.now c.args.at.now.state c.args.allowed (get_or c.args.task.now.candidates.now c.loop-next.next-index blank).step c.in-Some.ahead = rw c.in-Some.is at c.in_ok-ahead.ensures.some in
-    let fewer : columns_left c.args.task.now.kinds.now c.args.at.now.state ≡ columns_left c.args.task.now.kinds.now c.in-Some.ahead.state.state + 1 = fewer_after c.args.task.now.kinds.now c.args.at.now.state (get_or c.args.task.now.candidates.now c.loop-next.next-index blank).step c.show_limits.ensures a.possible ∙ ap (λ (z : State). columns_left c.args.task.now.kinds.now z + 1) (sym a.state) in
-    let counted : AreCounted c.loop-next.progress c.visit.new.progress = rw c.in_default-tried.is at c.in-Ok.ensures.counted in
-    let covered : AreCovered c.visit.new.progress.lemmas c.in-Some.ahead.state.state c.in-Some.ahead.left c.in_ok-onward.onward = rw c.in_default-tried.is at c.in-Ok.ensures.none in (
-      grown_through (g.B.RowBound.value c.args.task.now.bound.now) c.args.task.now.pins.now c.args.task.now.limit c.args.task.now.kinds.now c.args.task.now.budget (columns_left c.args.task.now.kinds.now c.args.at.now.state) (columns_left c.args.task.now.kinds.now c.in-Some.ahead.state.state) c.args.allowed c.in-Some.ahead.left c.args.progress.now c.loop-next.progress c.visit.new.progress fewer (omega (arith, a.left)) c.loop-next.invariant.0
-          c.in-Ok.ensures.grown,
-      All-more (WaysFail (g.B.RowBound.value c.args.task.now.bound.now) c.args.task.now.pins.now c.args.task.now.limit c.args.task.now.kinds.now c.visit.new.progress.lemmas c.args.at.now.state c.args.allowed c.args.ways.now) c.args.task.now.candidates.now c.loop-next.next-index blank c.loop-next-test.true
-          (ways_fail_more (g.B.RowBound.value c.args.task.now.bound.now) c.args.task.now.pins.now c.args.task.now.limit c.args.task.now.kinds.now c.loop-next.progress.lemmas c.visit.new.progress.lemmas c.in-Ok.ensures.grown.more c.args.at.now.state c.args.allowed c.args.ways.now (take c.loop-next.next-index c.args.task.now.candidates.now) c.in-Ok.ensures.grown.is c.loop-next.invariant.1)
-          (ahead_fails (g.B.RowBound.value c.args.task.now.bound.now) c.args.task.now.pins.now c.args.task.now.limit c.args.task.now.kinds.now c.loop-next.progress.lemmas c.visit.new.progress.lemmas c.in-Ok.ensures.grown.more c.args.at.now.state c.args.allowed c.args.ways.now c.in_ok-onward.onward (get_or c.args.task.now.candidates.now c.loop-next.next-index blank).step c.in-Some.ahead c.in-Ok.ensures.grown.is a c.in_ok-onward.ensures.taken covered),
-      omega (arith, c.loop-next.invariant.2, counted),
-    )
-
-pub returns-clause-grown : goal.returns-clause-grown
-returns-clause-grown g t c =
-    kept_grown (g.B.RowBound.value c.args.task.now.bound.now) c.args.task.now.pins.now c.args.task.now.limit c.args.task.now.kinds.now c.args.task.now.budget (columns_left c.args.task.now.kinds.now c.args.at.now.state) c.args.progress.now c.loop-next.progress c.keep.new.self c.args.at.now.state c.args.allowed c.args.ways.now c.args.task.now.candidates.now c.loop-next.next-index c.show_limits.ensures c.requires.candidates c.requires.numbered.valid c.requires.ends c.requires.ways c.requires.below c.requires.fresh c.loop-next-test.false c.loop-next.invariant.1 (c.in_ok-ends.ensures.no c.if-branch.false) refl c.loop-next.invariant.0
-    (c.in_ok-keep.ensures.lemmas ∙ ap (λ ws. c.loop-next.progress.lemmas ++ map (kept_at c.args.task.now.kinds.now.nets c.args.at.now.state c.args.allowed) ws) c.as_slice.ensures) c.in_ok-keep.ensures.noted c.in_ok-keep.ensures.visits
-
-pub returns-clause-none : goal.returns-clause-none
-returns-clause-none g t c =
-    kept_covers c.args.task.now.pins.now c.args.task.now.kinds.now c.loop-next.progress.lemmas c.keep.new.self.lemmas c.args.at.now.state c.args.allowed c.args.ways.now c.show_limits.ensures c.requires.ways (c.in_ok-keep.ensures.lemmas ∙ ap (λ ws. c.loop-next.progress.lemmas ++ map (kept_at c.args.task.now.kinds.now.nets c.args.at.now.state c.args.allowed) ws) c.as_slice.ensures)
-
-pub returns-then-len-eq0-clause-grown : goal.returns-then-len-eq0-clause-grown
-returns-then-len-eq0-clause-grown g t c = grown_same (g.B.RowBound.value c.args.task.now.bound.now) c.args.task.now.pins.now c.args.task.now.limit c.args.task.now.kinds.now c.args.task.now.budget (columns_left c.args.task.now.kinds.now c.args.at.now.state + 1) c.args.allowed c.args.progress.now c.args.progress.now c.requires.justified c.requires.own c.requires.noted refl refl c.requires.visits
-
-pub returns-then-progress-task-clause-spent : goal.returns-then-progress-task-clause-spent
-returns-then-progress-task-clause-spent g t c = λ e.
-    let all : c.args.progress.now.visits ≡ c.args.task.now.budget = search rules in
-    record {
-      grown = grown_same (g.B.RowBound.value c.args.task.now.bound.now) c.args.task.now.pins.now c.args.task.now.limit c.args.task.now.kinds.now c.args.task.now.budget (columns_left c.args.task.now.kinds.now c.args.at.now.state + 1) c.args.allowed c.args.progress.now c.args.progress.now c.requires.justified c.requires.own c.requires.noted refl refl c.requires.visits;
-      all = all;
-      many = omega (arith, all);
-    }
-
-pub returns-then-branch-clause-grown : goal.returns-then-branch-clause-grown
-returns-then-branch-clause-grown g t c =
-    let few : c.count_visit.new.self.visits ≤ c.args.task.now.budget = search rules in
-    grown_same (g.B.RowBound.value c.args.task.now.bound.now) c.args.task.now.pins.now c.args.task.now.limit c.args.task.now.kinds.now c.args.task.now.budget (columns_left c.args.task.now.kinds.now c.args.at.now.state + 1) c.args.allowed c.args.progress.now c.count_visit.new.self c.requires.justified c.requires.own c.requires.noted c.count_visit.ensures.lemmas c.count_visit.ensures.places few
-
-pub loop-next-init : goal.loop-next-init
-loop-next-init g t c =
-    let few : c.count_visit.new.self.visits ≤ c.args.task.now.budget = search rules in (
-      grown_same (g.B.RowBound.value c.args.task.now.bound.now) c.args.task.now.pins.now c.args.task.now.limit c.args.task.now.kinds.now c.args.task.now.budget (columns_left c.args.task.now.kinds.now c.args.at.now.state) c.args.allowed c.args.progress.now c.count_visit.new.self c.requires.justified c.requires.own c.requires.noted c.count_visit.ensures.lemmas c.count_visit.ensures.places few,
-      All-nil (WaysFail (g.B.RowBound.value c.args.task.now.bound.now) c.args.task.now.pins.now c.args.task.now.limit c.args.task.now.kinds.now c.count_visit.new.self.lemmas c.args.at.now.state c.args.allowed c.args.ways.now),
-      omega (arith, ap length c.count_visit.ensures.lemmas, c.count_visit.ensures.visits),
-    )
 
 pub returns-in-Some-tried-clause-grown : goal.returns-in-Some-tried-clause-grown
 unfolding blank
 returns-in-Some-tried-clause-grown g t c =
     let a : IsAhead c.args.task.now.kinds.now c.args.at.now.state c.args.allowed (get_or c.args.task.now.candidates.now c.loop-next.next-index blank).step c.in-Some.ahead = rw c.in-Some.is at c.in_ok-ahead.ensures.some in
     let fewer : columns_left c.args.task.now.kinds.now c.args.at.now.state ≡ columns_left c.args.task.now.kinds.now c.in-Some.ahead.state.state + 1 = fewer_after c.args.task.now.kinds.now c.args.at.now.state (get_or c.args.task.now.candidates.now c.loop-next.next-index blank).step c.show_limits.ensures a.possible ∙ ap (λ (z : State). columns_left c.args.task.now.kinds.now z + 1) (sym a.state) in
-    grown_above (g.B.RowBound.value c.args.task.now.bound.now) c.args.task.now.pins.now c.args.task.now.limit c.args.task.now.kinds.now c.args.task.now.budget (columns_left c.args.task.now.kinds.now c.args.at.now.state) (columns_left c.args.task.now.kinds.now c.in-Some.ahead.state.state) c.args.allowed c.in-Some.ahead.left c.args.progress.now c.loop-next.progress c.visit.new.progress fewer (omega (arith, a.left)) c.loop-next.invariant.0 c.in-Ok.ensures.grown
+    grown_above (g.B.RowBound.value c.args.task.now.bound.now) c.args.task.now.pins.now c.args.task.now.limit c.args.task.now.kinds.now c.args.task.now.gaps c.args.task.now.budget (columns_left c.args.task.now.kinds.now c.args.at.now.state) (columns_left c.args.task.now.kinds.now c.in-Some.ahead.state.state) c.args.progress.now c.closes.new.progress c.visit.new.progress fewer
+    (grown_through (g.B.RowBound.value c.args.task.now.bound.now) c.args.task.now.pins.now c.args.task.now.limit c.args.task.now.kinds.now c.args.task.now.gaps c.args.task.now.budget (columns_left c.args.task.now.kinds.now c.args.at.now.state) (columns_left c.args.task.now.kinds.now c.in-Some.ahead.state.state) c.args.progress.now c.loop-next.progress c.closes.new.progress fewer c.loop-next.invariant.0 c.in-Ok.ensures.grown) c.in-Ok-visit.ensures.grown
+
+pub returns-in-Some-tried-clause-first : goal.returns-in-Some-tried-clause-first
+unfolding blank
+returns-in-Some-tried-clause-first g t c =
+    let a : IsAhead c.args.task.now.kinds.now c.args.at.now.state c.args.allowed (get_or c.args.task.now.candidates.now c.loop-next.next-index blank).step c.in-Some.ahead = rw c.in-Some.is at c.in_ok-ahead.ensures.some in
+    let first : IsFirstRouted c.args.task.now.pins.now c.args.task.now.limit c.args.task.now.kinds.now c.in-Some.ahead.state.state c.in_ok-onward.onward c.in-Some.ahead.left (reverse c.in-Some-tried.rest) = rw c.in-Some-tried.is at c.in-Ok-visit.ensures.first in
+    let taken : All (AreTaken c.args.task.now.pins.now c.args.task.now.limit c.args.task.now.kinds.now c.closes.new.progress.lemmas c.args.at.now.state (get_or c.args.task.now.candidates.now c.loop-next.next-index blank).step c.in-Some.ahead.state.state c.in-Some.ahead.left c.in_ok-onward.onward) c.args.ways.now = subst (λ ls. All (AreTaken c.args.task.now.pins.now c.args.task.now.limit c.args.task.now.kinds.now ls c.args.at.now.state (get_or c.args.task.now.candidates.now c.loop-next.next-index blank).step c.in-Some.ahead.state.state c.in-Some.ahead.left c.in_ok-onward.onward) c.args.ways.now) c.noted.ensures.lemmas c.in_ok-onward.ensures.taken in
+    first_through (g.B.RowBound.value c.args.task.now.bound.now) c.args.task.now.pins.now c.args.task.now.limit c.args.task.now.kinds.now c.closes.new.progress.lemmas c.args.at.now.state c.args.ways.now c.in_ok-onward.onward c.args.allowed c.in-Some.ahead c.args.task.now.candidates.now c.loop-next.next-index blank c.in-Some-tried.rest c.push.new.self c.show_limits.ensures (λ row s valid. g.met.B.RowBound.holds c.args.task.now.bound.now row s c.args.task.now.kinds.now c.show_limits.ensures valid) c.in-Ok.ensures.grown.kept.kept.justified c.requires.numbered.valid c.requires.candidates c.requires.ways
+    (ways_after c.args.task.now.pins.now c.args.task.now.limit c.args.task.now.kinds.now c.args.at.now.state (get_or c.args.task.now.candidates.now c.loop-next.next-index blank).step c.args.ways.now c.in_ok-onward.onward c.show_limits.ensures c.requires.numbered.valid c.requires.ends a.possible c.requires.ways c.in_ok-onward.ensures.from)
+    c.loop-next-test.true
+    (ways_fail_more (g.B.RowBound.value c.args.task.now.bound.now) c.args.task.now.pins.now c.args.task.now.limit c.args.task.now.kinds.now c.loop-next.progress.lemmas c.closes.new.progress.lemmas c.in-Ok.ensures.grown.more c.args.at.now.state c.args.allowed c.args.ways.now (take c.loop-next.next-index c.args.task.now.candidates.now) c.in-Ok.ensures.grown.is c.loop-next.invariant.1)
+    a taken c.in_ok-onward.ensures.from first c.in_ok-push.ensures.ok
+
+pub loop-next-preserved : goal.loop-next-preserved
+unfolding blank
+loop-next-preserved g t c =
+    let a : IsAhead c.args.task.now.kinds.now c.args.at.now.state c.args.allowed (get_or c.args.task.now.candidates.now c.loop-next.next-index blank).step c.in-Some.ahead = rw c.in-Some.is at c.in_ok-ahead.ensures.some in
+    let fewer : columns_left c.args.task.now.kinds.now c.args.at.now.state ≡ columns_left c.args.task.now.kinds.now c.in-Some.ahead.state.state + 1 = fewer_after c.args.task.now.kinds.now c.args.at.now.state (get_or c.args.task.now.candidates.now c.loop-next.next-index blank).step c.show_limits.ensures a.possible ∙ ap (λ (z : State). columns_left c.args.task.now.kinds.now z + 1) (sym a.state) in
+    let covered : AreCovered c.visit.new.progress.lemmas c.in-Some.ahead.state.state c.in-Some.ahead.left c.in_ok-onward.onward = rw c.in_default-tried.is at c.in-Ok-visit.ensures.none in
+    let taken : All (AreTaken c.args.task.now.pins.now c.args.task.now.limit c.args.task.now.kinds.now c.closes.new.progress.lemmas c.args.at.now.state (get_or c.args.task.now.candidates.now c.loop-next.next-index blank).step c.in-Some.ahead.state.state c.in-Some.ahead.left c.in_ok-onward.onward) c.args.ways.now = subst (λ ls. All (AreTaken c.args.task.now.pins.now c.args.task.now.limit c.args.task.now.kinds.now ls c.args.at.now.state (get_or c.args.task.now.candidates.now c.loop-next.next-index blank).step c.in-Some.ahead.state.state c.in-Some.ahead.left c.in_ok-onward.onward) c.args.ways.now) c.noted.ensures.lemmas c.in_ok-onward.ensures.taken in (
+      grown_through (g.B.RowBound.value c.args.task.now.bound.now) c.args.task.now.pins.now c.args.task.now.limit c.args.task.now.kinds.now c.args.task.now.gaps c.args.task.now.budget (columns_left c.args.task.now.kinds.now c.args.at.now.state) (columns_left c.args.task.now.kinds.now c.in-Some.ahead.state.state) c.args.progress.now c.closes.new.progress c.visit.new.progress fewer
+          (grown_through (g.B.RowBound.value c.args.task.now.bound.now) c.args.task.now.pins.now c.args.task.now.limit c.args.task.now.kinds.now c.args.task.now.gaps c.args.task.now.budget (columns_left c.args.task.now.kinds.now c.args.at.now.state) (columns_left c.args.task.now.kinds.now c.in-Some.ahead.state.state) c.args.progress.now c.loop-next.progress c.closes.new.progress fewer c.loop-next.invariant.0 c.in-Ok.ensures.grown) c.in-Ok-visit.ensures.grown,
+      All-more (WaysFail (g.B.RowBound.value c.args.task.now.bound.now) c.args.task.now.pins.now c.args.task.now.limit c.args.task.now.kinds.now c.visit.new.progress.lemmas c.args.at.now.state c.args.allowed c.args.ways.now) c.args.task.now.candidates.now c.loop-next.next-index blank c.loop-next-test.true
+          (ways_fail_more (g.B.RowBound.value c.args.task.now.bound.now) c.args.task.now.pins.now c.args.task.now.limit c.args.task.now.kinds.now c.closes.new.progress.lemmas c.visit.new.progress.lemmas c.in-Ok-visit.ensures.grown.more c.args.at.now.state c.args.allowed c.args.ways.now (take c.loop-next.next-index c.args.task.now.candidates.now) c.in-Ok-visit.ensures.grown.is
+          (ways_fail_more (g.B.RowBound.value c.args.task.now.bound.now) c.args.task.now.pins.now c.args.task.now.limit c.args.task.now.kinds.now c.loop-next.progress.lemmas c.closes.new.progress.lemmas c.in-Ok.ensures.grown.more c.args.at.now.state c.args.allowed c.args.ways.now (take c.loop-next.next-index c.args.task.now.candidates.now) c.in-Ok.ensures.grown.is c.loop-next.invariant.1))
+          (ahead_fails (g.B.RowBound.value c.args.task.now.bound.now) c.args.task.now.pins.now c.args.task.now.limit c.args.task.now.kinds.now c.closes.new.progress.lemmas c.visit.new.progress.lemmas c.in-Ok-visit.ensures.grown.more c.args.at.now.state c.args.allowed c.args.ways.now c.in_ok-onward.onward (get_or c.args.task.now.candidates.now c.loop-next.next-index blank).step c.in-Some.ahead c.in-Ok-visit.ensures.grown.is a taken covered),
+    )
+
+pub returns-in-Ok-keep-clause-grown : goal.returns-in-Ok-keep-clause-grown
+returns-in-Ok-keep-clause-grown g t c =
+    kept_grown (g.B.RowBound.value c.args.task.now.bound.now) c.args.task.now.pins.now c.args.task.now.limit c.args.task.now.kinds.now c.args.task.now.gaps c.args.task.now.budget c.args.progress.now c.loop-next.progress c.keep.new.self c.args.at.now.state c.args.allowed c.args.ways.now c.loop-next.invariant.0
+    (kept_sound (g.B.RowBound.value c.args.task.now.bound.now) c.args.task.now.pins.now c.args.task.now.limit c.args.task.now.kinds.now c.args.task.now.gaps c.args.task.now.budget c.args.progress.now c.loop-next.progress c.args.at.now.state c.args.allowed c.args.ways.now c.args.task.now.candidates.now c.loop-next.next-index c.show_limits.ensures c.requires.candidates c.requires.numbered.valid c.requires.ends (of_open c.args.task.now.pins.now c.args.task.now.kinds.now c.args.at.now.state c.args.ways.now c.requires.ways) c.requires.below c.requires.fresh c.requires.gaps c.loop-next-test.false c.loop-next.invariant.1 (c.in_ok-ends.ensures.no c.if-branch.false) c.loop-next.invariant.0)
+    (c.in-Ok-keep.ensures.lemmas ∙ ap (λ ws. c.loop-next.progress.lemmas ++ map (kept_at c.args.task.now.kinds.now.nets c.args.at.now.state c.args.allowed) ws) c.as_slice.ensures) c.in-Ok-keep.ensures.noted c.in-Ok-keep.ensures.few
+
+pub returns-in-Ok-keep-clause-none : goal.returns-in-Ok-keep-clause-none
+returns-in-Ok-keep-clause-none g t c =
+    kept_covers c.args.task.now.pins.now c.args.task.now.kinds.now c.loop-next.progress.lemmas c.keep.new.self.lemmas c.args.at.now.state c.args.allowed c.args.ways.now c.show_limits.ensures (of_open c.args.task.now.pins.now c.args.task.now.kinds.now c.args.at.now.state c.args.ways.now c.requires.ways) (c.in-Ok-keep.ensures.lemmas ∙ ap (λ ws. c.loop-next.progress.lemmas ++ map (kept_at c.args.task.now.kinds.now.nets c.args.at.now.state c.args.allowed) ws) c.as_slice.ensures)
+
+pub returns-in-Err-keep-clause-spent : goal.returns-in-Err-keep-clause-spent
+returns-in-Err-keep-clause-spent g t c = λ e.
+    let sound : AreKept (g.B.RowBound.value c.args.task.now.bound.now) c.args.task.now.pins.now c.args.task.now.limit c.args.task.now.kinds.now c.args.task.now.gaps (c.loop-next.progress.lemmas ++ map (kept_at c.args.task.now.kinds.now.nets c.args.at.now.state c.args.allowed) c.args.ways.now) = kept_sound (g.B.RowBound.value c.args.task.now.bound.now) c.args.task.now.pins.now c.args.task.now.limit c.args.task.now.kinds.now c.args.task.now.gaps c.args.task.now.budget c.args.progress.now c.loop-next.progress c.args.at.now.state c.args.allowed c.args.ways.now c.args.task.now.candidates.now c.loop-next.next-index c.show_limits.ensures c.requires.candidates c.requires.numbered.valid c.requires.ends (of_open c.args.task.now.pins.now c.args.task.now.kinds.now c.args.at.now.state c.args.ways.now c.requires.ways) c.requires.below c.requires.fresh c.requires.gaps c.loop-next-test.false c.loop-next.invariant.1 (c.in_ok-ends.ensures.no c.if-branch.false) c.loop-next.invariant.0 in
+    kept_spent (g.B.RowBound.value c.args.task.now.bound.now) c.args.task.now.pins.now c.args.task.now.limit c.args.task.now.kinds.now c.args.task.now.gaps c.args.task.now.budget (c.loop-next.progress.lemmas ++ map (kept_at c.args.task.now.kinds.now.nets c.args.at.now.state c.args.allowed) c.as_slice.result.now) c.keep.new.self.lemmas
+    (subst (λ ws. AreKept (g.B.RowBound.value c.args.task.now.bound.now) c.args.task.now.pins.now c.args.task.now.limit c.args.task.now.kinds.now c.args.task.now.gaps (c.loop-next.progress.lemmas ++ map (kept_at c.args.task.now.kinds.now.nets c.args.at.now.state c.args.allowed) ws)) (sym c.as_slice.ensures) sound) (c.in-Err-keep.ensures.spent e)

@@ -1,4 +1,4 @@
-use Rattle.std.proofs.Common.{◌≤◌, ◌+◌, All, length, take}
+use Rattle.std.proofs.Common.{All, take}
 use Rattle.row_state.specs.Start.{columns_left}
 use Rattle.track_search.specs.Visit.{IsGrown}
 use Rattle.track_search.proofs.Grown.{WaysFail}
@@ -9,6 +9,5 @@ decreases-visit g l = columns_left l.task.now.kinds.now l.at.now.state
 
 abbrev pub invariant-loop-next : goal.invariant-loop-next
 invariant-loop-next g l =
-    IsGrown (g.B.RowBound.value l.task.bound.now) l.task.pins.now l.task.limit l.task.kinds.now l.task.budget (columns_left l.task.kinds.now l.at.state) l.allowed l.fn.progress l.progress
+    IsGrown (g.B.RowBound.value l.task.bound.now) l.task.pins.now l.task.limit l.task.kinds.now l.task.gaps l.task.budget (columns_left l.task.kinds.now l.at.state) l.fn.progress l.progress
     × All (WaysFail (g.B.RowBound.value l.task.bound.now) l.task.pins.now l.task.limit l.task.kinds.now l.progress.lemmas l.at.state l.allowed l.ways) (take l.next-index l.next-items)
-    × (l.progress.visits + length l.fn.progress.lemmas ≤ l.fn.progress.visits + 1 + length l.progress.lemmas)

@@ -1,4 +1,4 @@
-use Rattle.std.proofs.Common.{◌≤◌, All}
+use Rattle.std.proofs.Common.{All}
 use Rattle.track_search.specs.Fewest.{Prove}
 use Rattle.track_search.specs.Kept.{IsWithin}
 use Rattle.track_search.proofs.Spent.{AreTried}
@@ -6,7 +6,6 @@ use Rattle.track_search.proofs.fewest.try_limits.Given as goal
 
 abbrev pub invariant-loop-limit : goal.invariant-loop-limit
 invariant-loop-limit g l =
-    Prove (g.B.RowBound.value l.task.bound.now) l.task.pins.now l.task.kinds.now l.gaps l.limit l.lemmas
-    × (l.visits ≤ l.task.budget)
-    × All (IsWithin l.task.kinds.now l.most l.gaps) l.lemmas
-    × AreTried (g.B.RowBound.value l.task.bound.now) l.task.pins.now l.task.kinds.now l.gaps l.limit l.visits
+    Prove (g.B.RowBound.value l.task.bound.now) l.task.pins.now l.task.kinds.now l.task.gaps l.limit l.lemmas
+    × All (IsWithin l.task.kinds.now l.most l.task.gaps) l.lemmas
+    × AreTried (g.B.RowBound.value l.task.bound.now) l.task.pins.now l.task.kinds.now l.task.gaps l.limit l.budget l.task.budget l.lemmas

@@ -1,4 +1,4 @@
-use Rattle.std.proofs.Common.{arith, subst, sym}
+use Rattle.std.proofs.Common.{subst, sym}
 use Rattle.row_state.specs.Candidates.{AreCandidates}
 use Rattle.track_check.specs.Touches.{AreTouches}
 use Rattle.track_search.proofs.Least.{end_more}
@@ -10,7 +10,6 @@ search_task-requires g c = record {
   all = subst (λ s. AreTouches c.args.kinds.now s c.touches-all.result) c.in_ok-first.ensures.state c.touches-all.ensures.touches;
   state = c.in_ok-first.ensures.state;
   numbered = c.in_ok-first.ensures.numbered;
-  visits = omega arith;
 }
 
 pub returns-clause-more : goal.returns-clause-more

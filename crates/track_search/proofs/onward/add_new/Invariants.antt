@@ -4,5 +4,5 @@ use Rattle.track_search.proofs.onward.add_new.Given as goal
 
 abbrev pub invariant-loop-way : goal.invariant-loop-way
 invariant-loop-way l =
-    AreAdded l.progress.lemmas l.at.state l.left l.found (take l.way-index l.found) l.fn.ways l.ways
-    × AreFresh l.progress.lemmas l.at.state l.left l.ways
+    AreAdded l.known.lemmas.now l.at.state l.left l.found (take l.way-index l.found) l.fn.ways l.ways
+    × AreFresh l.known.lemmas.now l.at.state l.left l.ways

@@ -4,6 +4,6 @@ use Rattle.track_search.proofs.onward.onward_ways.Given as goal
 
 abbrev pub invariant-loop-way : goal.invariant-loop-way
 invariant-loop-way g l =
-    (All (AreTaken l.task.pins.now l.task.limit l.task.kinds.now l.progress.lemmas l.state l.next.step l.ahead.state.state l.ahead.left l.onward) (take l.way-index l.way-items)
+    (All (AreTaken l.task.pins.now l.task.limit l.task.kinds.now l.known.lemmas.now l.state l.next.step l.ahead.state.state l.ahead.left l.onward) (take l.way-index l.way-items)
     × All (GoOn l.task.pins.now l.task.limit l.task.kinds.now l.state l.next.step l.ways) l.onward)
-    × AreFresh l.progress.lemmas l.ahead.state.state l.ahead.left l.onward
+    × AreFresh l.known.lemmas.now l.ahead.state.state l.ahead.left l.onward

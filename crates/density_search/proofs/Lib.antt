@@ -1,6 +1,0 @@
-pub mod Crowded
-pub mod Grown
-pub mod Notes
-pub mod Open
-pub mod Paths
-pub mod Starts

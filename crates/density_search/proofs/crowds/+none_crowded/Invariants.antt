@@ -1,5 +1,0 @@
-use Rattle.std.proofs.Common.{length}
-use Rattle.density_search.proofs.crowds.+none_crowded.Given as goal
-
-abbrev pub decreases-none_crowded : goal.decreases-none_crowded
-decreases-none_crowded l = length l.lines.now

@@ -1,5 +1,0 @@
-use Rattle.std.proofs.Common.{length}
-use Rattle.density_search.proofs.held.+is_ahead.Given as goal
-
-abbrev pub decreases-is_ahead : goal.decreases-is_ahead
-decreases-is_ahead l = length l.lines.now

@@ -1,0 +1,52 @@
+use Rattle.std.proofs.Common.{◌≡◌, ap, subst, ◌∙◌}
+use Rattle.row_state.specs.Start.{IsState}
+use Rattle.row_state.specs.Steps.{state_after}
+use Rattle.track_ways.specs.States.{is_still_ahead}
+use Rattle.track_ways.specs.Certificate.{NeedsMore}
+use Rattle.track_check.proofs.Failing.{bare_fail, crowded_fail, known_fail, more_fail}
+use Rattle.track_check.proofs.Loops.{not_both, yes_from}
+use Rattle.track_check.proofs.Noted.{noted_here}
+use Rattle.track_check.proofs.steps.ways_fail.Goals as goal
+
+pub returns-then-needs_more : goal.returns-then-needs_more
+returns-then-needs_more g c =
+    let after : c.in_ok-after.after.state ≡ state_after c.args.grounds.now.kinds.now c.args.lemma.now.state c.args.next.now.step = c.in_ok-after.ensures.state ∙ ap (λ s. state_after c.args.grounds.now.kinds.now s c.args.next.now.step) c.requires.state in
+    yes_from (more_fail (g.B.RowBound.value c.args.grounds.now.bound.now) c.args.grounds.now.pins.now c.args.grounds.now.limit c.args.grounds.now.kinds.now c.args.earlier.now.lemmas.now c.args.lemma.now c.args.next.now.step c.args.left
+    (subst (λ s. NeedsMore (g.B.RowBound.value c.args.grounds.now.bound.now) c.args.grounds.now.kinds.now s c.args.left) after (c.needs_more.ensures.0 c.if-needs_more.true)))
+
+pub covers-requires : goal.covers-requires
+covers-requires g c = noted_here c.args.grounds.now.kinds.now c.args.earlier.now.lemmas.now c.args.earlier.now.places.now c.in_ok-after.after c.in_ok-after.ensures.numbered.code c.requires.noted
+
+pub returns-then-covers : goal.returns-then-covers
+returns-then-covers g c =
+    let after : c.in_ok-after.after.state ≡ state_after c.args.grounds.now.kinds.now c.args.lemma.now.state c.args.next.now.step = c.in_ok-after.ensures.state ∙ ap (λ s. state_after c.args.grounds.now.kinds.now s c.args.next.now.step) c.requires.state in
+    yes_from (bare_fail (g.B.RowBound.value c.args.grounds.now.bound.now) c.args.grounds.now.pins.now c.args.grounds.now.limit c.args.grounds.now.kinds.now c.args.earlier.now.lemmas.now c.args.lemma.now c.args.next.now.step c.args.left c.in_ok-after.after.state after (c.covers.ensures.0 c.if-covers.true))
+
+pub step_uncrowded-requires : goal.step_uncrowded-requires
+step_uncrowded-requires g c =
+    let after : c.in_ok-after.after.state ≡ state_after c.args.grounds.now.kinds.now c.args.lemma.now.state c.args.next.now.step = c.in_ok-after.ensures.state ∙ ap (λ s. state_after c.args.grounds.now.kinds.now s c.args.next.now.step) c.requires.state in
+    record {
+      state = subst (IsState c.args.grounds.now.kinds.now) c.requires.state c.requires.numbered.valid;
+      before = c.requires.before;
+      after = c.nets_ahead-ahead.ensures c.args.grounds.now.kinds.now c.in_ok-after.after.state c.touches-here.ensures.touches ∙ ap (is_still_ahead c.args.grounds.now.kinds.now) after;
+    }
+
+pub returns-then-not-branch : goal.returns-then-not-branch
+returns-then-not-branch g c = yes_from (crowded_fail (g.B.RowBound.value c.args.grounds.now.bound.now) c.args.grounds.now.pins.now c.args.grounds.now.limit c.args.grounds.now.kinds.now c.args.earlier.now.lemmas.now c.args.lemma.now c.args.next.now.step c.args.left (c.in_ok-step_uncrowded.ensures.crowded c.if-not-branch.true c.args.lemma.now.tracks))
+
+pub step_ways-requires : goal.step_ways-requires
+step_ways-requires g c =
+    let after : c.in_ok-after.after.state ≡ state_after c.args.grounds.now.kinds.now c.args.lemma.now.state c.args.next.now.step = c.in_ok-after.ensures.state ∙ ap (λ s. state_after c.args.grounds.now.kinds.now s c.args.next.now.step) c.requires.state in
+    record {
+      state = subst (IsState c.args.grounds.now.kinds.now) c.requires.state c.requires.numbered.valid;
+      before = c.requires.before;
+      behind = c.nets_ahead-ahead.ensures c.args.grounds.now.kinds.now c.in_ok-after.after.state c.touches-here.ensures.touches ∙ ap (is_still_ahead c.args.grounds.now.kinds.now) after;
+    }
+
+pub cover_all-requires : goal.cover_all-requires
+cover_all-requires g c = noted_here c.args.grounds.now.kinds.now c.args.earlier.now.lemmas.now c.args.earlier.now.places.now c.in_ok-after.after c.in_ok-after.ensures.numbered.code c.requires.noted
+
+pub returns : goal.returns
+returns g c =
+    let after : c.in_ok-after.after.state ≡ state_after c.args.grounds.now.kinds.now c.args.lemma.now.state c.args.next.now.step = c.in_ok-after.ensures.state ∙ ap (λ s. state_after c.args.grounds.now.kinds.now s c.args.next.now.step) c.requires.state in
+    known_fail (g.B.RowBound.value c.args.grounds.now.bound.now) c.args.grounds.now.pins.now c.args.grounds.now.limit c.args.grounds.now.kinds.now c.args.earlier.now.lemmas.now c.args.lemma.now c.args.next.now.step c.args.left c.in_ok-after.after.state c.as_slice.result.now c.cover_all.result after (c.as_slice.ensures ∙ c.in_ok-ways.ensures.ways) (λ more. not_both c.needs_more.result (c.needs_more.ensures.1 more) c.if-needs_more.false) c.cover_all.ensures

@@ -1,0 +1,111 @@
+ghost use Rattle.std.specs.Prelude.{ℕ, ◌≡◌, ◌≢◌, ◌≤◌, IfErr, IfOk, length, List as Sequence};
+ghost use Rattle.cell_num.specs.declared.finger.Fingers.{Fingers};
+ghost use Rattle.row_model.specs.declared.column.Column.{Column};
+ghost use Rattle.row_model.specs.Arrangement.{IsArrangement};
+ghost use Rattle.row_model.specs.Gaps.{gaps_of};
+ghost use Rattle.row_place.specs.Places.{placement_of};
+ghost use Rattle.channel_route.specs.declared.routing.Routing.{Routing};
+ghost use Rattle.channel_route.specs.Routing.{IsLegal};
+ghost use Rattle.row_state.specs.Start.{AreKinds};
+ghost use Rattle.bound_log.specs.declared.fault.LogFault.TheVariants as log;
+ghost use Rattle.bound_log.specs.Fits.{IsLogName};
+ghost use Rattle.track_check.specs.declared.accept.TracksProved.{TracksProved as ProvedOf};
+ghost use Rattle.track_check.specs.declared.rejected.TextRejected.TheVariants as because;
+ghost use Rattle.track_check.specs.Accepted.{IsAccepted, Rejects};
+
+use crate::{TextRejected, TracksRefused, check_tracks};
+use bound_log::LogFault;
+use cell_num::{MOST_BYTES, Name, Pins};
+use row_state::{Kinds, RowBound};
+use std::alloc::Global;
+use track_log::read_tracks;
+
+/// What an accepted text proves: each row with at most `gaps` gaps needs `tracks` tracks.
+#[derive(Clone, Copy, Debug, PartialEq, Eq)]
+pub struct TracksProved {
+    pub gaps: u32,
+    pub tracks: u32,
+}
+
+fn because_of(fault: LogFault) -> TextRejected
+    ensures { result ≢ because.NoMemory → (result ≡ because.Text fault) × (fault ≢ log.NoMemory) }
+{
+    match fault {
+        LogFault::NoMemory => TextRejected::NoMemory,
+        _ => TextRejected::Text { fault },
+    }
+}
+
+// The verdict on a text.
+fn judge<B: RowBound>(
+    alloc: Global,
+    bound: &B,
+    pins: &Pins,
+    bytes: &[u8],
+    name: &Name,
+    kinds: &Kinds,
+) -> Result<TracksProved, TextRejected>
+    requires name { IsLogName name.now }
+    requires few { length bytes.now ≤ MOST_BYTES }
+    ensures accepted { IfOk result (IsAccepted (B.value bound.now) pins.now kinds.now name.now bytes.now) }
+    ensures rejected { IfErr result (λ cause. cause ≢ because.NoMemory →
+        Rejects (B.value bound.now) pins.now kinds.now name.now bytes.now cause) }
+    ensures more { IfOk result (λ proved. (f : Fingers) (row : Sequence Column) (r : Routing) → AreKinds f kinds.now
+        → IsArrangement row f → gaps_of row ≤ proved.gaps → IsLegal (placement_of row) pins.now r
+        → proved.tracks ≤ r.tracks) }
+{
+    let certificate = match read_tracks(alloc, bytes, name, kinds) {
+        Ok(certificate) => certificate,
+        Err(fault) => return Err(because_of(fault)),
+    };
+    let proved = TracksProved {
+        gaps: certificate.gaps,
+        tracks: certificate.tracks,
+    };
+    let limit = proved.tracks - 1;
+    match check_tracks(
+        alloc,
+        bound,
+        pins,
+        limit,
+        kinds,
+        proved.gaps,
+        &certificate.lemmas,
+    ) {
+        Ok(()) => Ok(proved),
+        Err(TracksRefused::Unjustified { at }) => Err(TextRejected::Unjustified {
+            line: at as u32 + 5,
+        }),
+        Err(TracksRefused::NoStart) => Err(TextRejected::NoStart),
+        Err(TracksRefused::NoMemory) => Err(TextRejected::NoMemory),
+    }
+}
+
+/// Checks the text of a certificate of tracks, for the cell of that name and the kinds of its fingers: it is read, and
+/// its lemmas show that each row with at most the gaps of its line needs the tracks of its line. Else the first cause
+/// to reject it. The name has 1 to 32 bytes and no line feed, and there are at most [`MOST_BYTES`] bytes.
+pub fn check_text<B: RowBound>(
+    alloc: Global,
+    bound: &B,
+    pins: &Pins,
+    bytes: &[u8],
+    name: &Name,
+    kinds: &Kinds,
+) -> Result<TracksProved, TextRejected>
+    requires name { IsLogName name.now }
+    requires few { length bytes.now ≤ MOST_BYTES }
+    ensures accepted { IfOk result (IsAccepted (B.value bound.now) pins.now kinds.now name.now bytes.now) }
+    ensures rejected { IfErr result (λ cause. cause ≢ because.NoMemory →
+        Rejects (B.value bound.now) pins.now kinds.now name.now bytes.now cause) }
+    // no text that is rejected is one to accept
+    ensures none { IfErr result (λ cause. cause ≢ because.NoMemory → (proved : ProvedOf) →
+        IsAccepted (B.value bound.now) pins.now kinds.now name.now bytes.now proved → ⊥) }
+    // what is accepted is true: each legal routing has that number of tracks or more
+    ensures more { IfOk result (λ proved. (f : Fingers) (row : Sequence Column) (r : Routing) → AreKinds f kinds.now
+        → IsArrangement row f → gaps_of row ≤ proved.gaps → IsLegal (placement_of row) pins.now r
+        → proved.tracks ≤ r.tracks) }
+{
+    kinds.show_limits();
+    let proved = judge(alloc, bound, pins, bytes, name, kinds)?;
+    Ok(proved)
+}

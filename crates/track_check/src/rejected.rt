@@ -1,0 +1,18 @@
+use bound_log::LogFault;
+use thiserror::Error;
+
+/// Why a text is rejected, in the order of looking.
+#[derive(Debug, Drop, Error)]
+pub enum TextRejected {
+    /// The bytes are not the text of a certificate: the first place that is wrong.
+    #[error("Text")]
+    Text { fault: LogFault },
+    /// The first lemma that does not follow from those before it, by its line.
+    #[error("Unjustified")]
+    Unjustified { line: u32 },
+    /// No lemma is about the start state, the gaps and any tracks.
+    #[error("NoStart")]
+    NoStart,
+    #[error("NoMemory")]
+    NoMemory,
+}

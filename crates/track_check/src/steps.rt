@@ -1,0 +1,121 @@
+// Whether next columns leave a lemma justified.
+ghost use Rattle.std.specs.Prelude.{◌≡◌, ◌↔◌, IfOk, IsTrue, ℕ};
+ghost use Rattle.row_state.specs.declared.step.Step.{Step as StepOf};
+ghost use Rattle.row_state.specs.Candidates.{AreCandidates, IsCandidate, IsNumbered};
+ghost use Rattle.row_state.specs.Steps.{IsPossible};
+ghost use Rattle.track_ways.specs.States.{is_behind};
+ghost use Rattle.track_ways.specs.Tables.{marked};
+ghost use Rattle.track_check.specs.Noted.{AreNoted};
+ghost use Rattle.track_check.specs.Steps.{StepFailsListed, WaysFail};
+
+use crate::{NotedLemmas, TrackGrounds, needs_more, nets_ahead, touches};
+use cell_num::NoMemory;
+use row_state::{Candidate, Numbered, RowBound};
+use row_trails::NETS;
+use std::alloc::Global;
+use track_ways::{TrackLemma, step_uncrowded, step_ways};
+
+// Whether all listed tracks after the column are refuted, with that many gaps left. They are where a lemma is about
+// the state and of any tracks, and where a line to the column is crowded.
+fn ways_fail<B: RowBound>(
+    alloc: Global,
+    grounds: &TrackGrounds<B>,
+    earlier: &NotedLemmas,
+    lemma: &TrackLemma,
+    from: &Numbered,
+    before: &[bool; NETS],
+    next: &Candidate,
+    left: u32,
+) -> Result<bool, NoMemory>
+    requires numbered { IsNumbered grounds.now.kinds.now from.now }
+    requires state { from.now.state ≡ lemma.now.state }
+    requires before { marked before.now ≡ is_behind grounds.now.kinds.now lemma.now.state }
+    requires next { IsCandidate grounds.now.kinds.now next.now }
+    requires step { IsPossible grounds.now.kinds.now lemma.now.state next.now.step }
+    requires noted { AreNoted grounds.now.kinds.now earlier.now.lemmas.now earlier.now.places.now }
+    ensures { IfOk result (λ fail. IsTrue fail ↔ WaysFail (B.value grounds.now.bound.now) grounds.now.pins.now
+        grounds.now.limit grounds.now.kinds.now earlier.now.lemmas.now lemma.now next.now.step left) }
+{
+    let kinds = grounds.kinds;
+    let after = from.behind(alloc, kinds, next)?;
+    if needs_more(grounds.bound, kinds, &after.state, left) {
+        return Ok(true);
+    }
+    if earlier.covers(&after, left, &[]) {
+        return Ok(true);
+    }
+    let here = touches(kinds, &after.state);
+    let ahead = nets_ahead(&here);
+    let (pins, limit, state) = (grounds.pins, grounds.limit, &lemma.state);
+    if !step_uncrowded(alloc, pins, limit, kinds, state, before, &next.step, &ahead)? {
+        return Ok(true);
+    }
+    let ways = step_ways(
+        alloc,
+        pins,
+        limit,
+        kinds,
+        state,
+        before,
+        &next.step,
+        &ahead,
+        &lemma.tracks,
+    )?;
+    Ok(earlier.cover_all(&after, left, ways.as_slice()))
+}
+
+// Whether the column leaves the lemma justified.
+fn step_fails<B: RowBound>(
+    alloc: Global,
+    grounds: &TrackGrounds<B>,
+    earlier: &NotedLemmas,
+    lemma: &TrackLemma,
+    from: &Numbered,
+    before: &[bool; NETS],
+    next: &Candidate,
+) -> Result<bool, NoMemory>
+    requires numbered { IsNumbered grounds.now.kinds.now from.now }
+    requires state { from.now.state ≡ lemma.now.state }
+    requires before { marked before.now ≡ is_behind grounds.now.kinds.now lemma.now.state }
+    requires next { IsCandidate grounds.now.kinds.now next.now }
+    requires noted { AreNoted grounds.now.kinds.now earlier.now.lemmas.now earlier.now.places.now }
+    ensures { IfOk result (λ fails. IsTrue fails ↔ StepFailsListed (B.value grounds.now.bound.now) grounds.now.pins.now
+        grounds.now.limit grounds.now.kinds.now earlier.now.lemmas.now lemma.now next.now.step) }
+{
+    if !from.allows(grounds.kinds, next) {
+        return Ok(true);
+    }
+    let cost = from.cost(next);
+    if lemma.gaps < cost {
+        return Ok(true);
+    }
+    let left = lemma.gaps - cost;
+    let fail = ways_fail(alloc, grounds, earlier, lemma, from, before, next, left)?;
+    Ok(fail)
+}
+
+// Whether each next column leaves the lemma justified.
+#[tactic(auto, using(crate::proofs::Failing::candidate_is))]
+pub(crate) fn steps_fail<B: RowBound>(
+    alloc: Global,
+    grounds: &TrackGrounds<B>,
+    earlier: &NotedLemmas,
+    lemma: &TrackLemma,
+    from: &Numbered,
+    before: &[bool; NETS],
+) -> Result<bool, NoMemory>
+    requires candidates { AreCandidates grounds.now.kinds.now grounds.now.candidates.now }
+    requires numbered { IsNumbered grounds.now.kinds.now from.now }
+    requires state { from.now.state ≡ lemma.now.state }
+    requires before { marked before.now ≡ is_behind grounds.now.kinds.now lemma.now.state }
+    requires noted { AreNoted grounds.now.kinds.now earlier.now.lemmas.now earlier.now.places.now }
+    ensures { IfOk result (λ fail. IsTrue fail ↔ ((step : StepOf) → StepFailsListed (B.value grounds.now.bound.now)
+        grounds.now.pins.now grounds.now.limit grounds.now.kinds.now earlier.now.lemmas.now lemma.now step)) }
+{
+    for next in grounds.candidates.as_slice() {
+        if !step_fails(alloc, grounds, earlier, lemma, from, before, next)? {
+            return Ok(false);
+        }
+    }
+    Ok(true)
+}

@@ -1,3 +1,0 @@
--- What contracts of public calls cite, and what these definitions stand on.
-pub mod Certificate
-pub mod Checked

@@ -1,0 +1,92 @@
+// States of which each completion has a crowded line: for all tracks at once.
+ghost use Rattle.std.specs.Prelude.{◌≡◌, ◌+◌, ◌≤◌, [], ◌∷◌, All, Any, IfErr, IfOk, IsTrue, OnOk, false};
+ghost use Rattle.row_state.specs.Candidates.{AreCandidates, IsNumbered};
+ghost use Rattle.row_state.specs.Start.{HasFingers, IsState, columns_left, start_of};
+ghost use Rattle.track_ways.specs.Certificate.{CoversAll};
+ghost use Rattle.track_ways.specs.Paths.{EndsFit};
+ghost use Rattle.track_ways.specs.States.{is_behind};
+ghost use Rattle.track_ways.specs.Tables.{marked};
+ghost use Rattle.track_check.specs.Touches.{AreTouches};
+ghost use Rattle.track_search.specs.Kept.{IsSpentBelow};
+ghost use Rattle.track_search.specs.Visit.{EndsFail, IsGrown, IsKept};
+ghost use Rattle.track_search.specs.declared.halt.Halt.TheVariants.{Spent};
+
+use crate::ahead::{Task, nets_before, state_ahead};
+use crate::halt::Halt;
+use crate::progress::Progress;
+use cell_num::NoMemory;
+use row_state::{Numbered, RowBound, State, has_fingers};
+use row_trails::NETS;
+use track_ways::{NetTracks, end_uncrowded};
+
+// Whether no finger is left and the last line is not crowded. `before` has the nets with a place before it.
+fn ends_open<B: RowBound>(
+    task: &Task<B>,
+    state: &State,
+    before: &[bool; NETS],
+) -> Result<bool, NoMemory>
+    requires state { IsState task.now.kinds.now state.now }
+    requires before { marked before.now ≡ is_behind task.now.kinds.now state.now }
+    ensures { IfOk result (λ r. r ≡ false → (HasFingers task.now.kinds.now state.now → ⊥)
+        → All (EndsFail task.now.pins.now task.now.limit task.now.kinds.now state.now) ([] ∷ [])) }
+{
+    if has_fingers(state) {
+        return Ok(false);
+    }
+    let open = end_uncrowded(task.alloc, task.pins, task.limit, task.kinds, state, before)?;
+    Ok(open)
+}
+
+/// Whether a kept lemma without tracks is about the state and as many gaps as are allowed. It asks for one and keeps
+/// it where each completion has a crowded line. Where it answers false, nothing is promised.
+pub(crate) fn closes<B: RowBound>(
+    task: &Task<B>,
+    progress: &mut Progress,
+    at: &Numbered,
+    allowed: u32,
+) -> Result<bool, Halt>
+    requires candidates { AreCandidates task.now.kinds.now task.now.candidates.now }
+    requires all { AreTouches task.now.kinds.now (start_of task.now.kinds.now) task.now.all.now }
+    requires numbered { IsNumbered task.now.kinds.now at.now }
+    requires ends { EndsFit task.now.kinds.now at.now.state }
+    requires gaps { allowed ≤ task.now.gaps }
+    requires kept { IsKept (B.value task.now.bound.now) task.now.pins.now task.now.limit task.now.kinds.now
+        task.now.gaps task.now.budget progress.old }
+    ensures grown { OnOk result (IsGrown (B.value task.now.bound.now) task.now.pins.now task.now.limit
+        task.now.kinds.now task.now.gaps task.now.budget (columns_left task.now.kinds.now at.now.state + 1)
+        progress.old progress.new) }
+    ensures closed { IfOk result (λ closed. IsTrue closed → Any (CoversAll at.now.state allowed) progress.new.lemmas) }
+    ensures spent { IfErr result (λ halt. halt ≡ Spent → IsSpentBelow (B.value task.now.bound.now) task.now.pins.now
+        task.now.limit task.now.kinds.now task.now.gaps task.now.budget) }
+{
+    task.kinds.show_limits();
+    if progress.is_open(at, allowed) {
+        return Ok(false);
+    }
+    if progress.is_closed(task, at, allowed) {
+        return Ok(true);
+    }
+    let before = nets_before(task, &at.state);
+    if ends_open(task, &at.state, &before)? {
+        progress.note_open(at, allowed)?;
+        return Ok(false);
+    }
+    for next in task.candidates {
+        let Some(ahead) = state_ahead(task, at, &before, next, allowed)? else {
+            continue;
+        };
+        let closed = match closes(task, progress, &ahead.state, ahead.left) {
+            Ok(closed) => closed,
+            Err(halt) => return Err(halt),
+        };
+        if !closed {
+            progress.note_open(at, allowed)?;
+            return Ok(false);
+        }
+    }
+    let none = NetTracks::new(task.alloc);
+    match progress.keep_one(task, at, allowed, &none) {
+        Ok(()) => Ok(true),
+        Err(halt) => Err(halt),
+    }
+}

@@ -1,0 +1,86 @@
+-- Which lemmas on tracks are justified, and which lists of them certify that rows have more tracks.
+use Rattle.std.specs.Prelude.{ℕ, ◌≡◌, ◌+◌, ◌<◌, ◌≤◌, ◌⊎◌, true, List, [], All, Any, length, take, slice_index_or}
+use Rattle.cell_num.specs.declared.net.NetNo.{NetNo}
+use Rattle.cell_num.specs.declared.net.Pins.{Pins}
+use Rattle.cell_num.specs.declared.finger.Row.{Row}
+use Rattle.cell_num.specs.declared.finger.Row.TheVariants.{P, N}
+use Rattle.row_state.specs.declared.kind.Kinds.{Kinds}
+use Rattle.row_state.specs.declared.state.State.{State}
+use Rattle.row_state.specs.declared.step.Step.{Step}
+use Rattle.row_state.specs.Completion.{cost_of}
+use Rattle.row_state.specs.Start.{HasFingers, IsState, start_of}
+use Rattle.row_state.specs.Steps.{IsPossible, column_of, state_after}
+use Rattle.track_ways.specs.Fails.{Fails}
+use Rattle.track_ways.specs.Paths.{Goes, Ends, EndsFit}
+use Rattle.track_ways.specs.States.{is_open_at}
+use Rattle.track_ways.specs.declared.track.NetTrack.{NetTrack}
+use Rattle.track_ways.specs.Tracks.{AreTracksOf, IsSingle}
+use Rattle.track_ways.specs.declared.lemma.TrackLemma.{TrackLemma}
+
+-- the lemma is about the state, as many gaps or more, and such tracks
+pub record Covers (s : State) (gaps : ℕ) (track : NetNo → ℕ) (lemma : TrackLemma) : Type 0 where
+  pub state : lemma.state ≡ s
+  pub enough : gaps ≤ lemma.gaps
+  pub tracks : AreTracksOf lemma.tracks track
+
+-- the bound of a row is above the gaps
+abbrev pub NeedsMore : (Row → State → Kinds → ℕ) → Kinds → State → ℕ → Type 0
+NeedsMore value k s gaps = (gaps < value P s k) ⊎ (gaps < value N s k)
+
+-- the state needs more gaps, or an earlier lemma is about it
+abbrev pub IsRefuted : (Row → State → Kinds → ℕ) → Kinds → List TrackLemma → State → ℕ → (NetNo → ℕ) → Type 0
+IsRefuted value k earlier s gaps track = NeedsMore value k s gaps ⊎ Any (Covers s gaps track) earlier
+
+-- Each way of the tracks through the next column leads to a refuted state; where the column costs more than
+-- the gaps there is none to show.
+abbrev pub StepFails : (Row → State → Kinds → ℕ) → Pins → ℕ → Kinds → List TrackLemma → TrackLemma → Step → Type 0
+StepFails value pins limit k earlier lemma step =
+    (track next : NetNo → ℕ) (left : ℕ) → AreTracksOf lemma.tracks track
+    → Goes pins limit k lemma.state track step next → cost_of lemma.state (column_of k step) + left ≡ lemma.gaps
+    → IsRefuted value k earlier (state_after k lemma.state step) left next
+
+-- so does each possible next column; and where no finger is left, no tracks go through the last line
+pub record Branches
+    (value : Row → State → Kinds → ℕ) (pins : Pins) (limit : ℕ) (k : Kinds)
+    (earlier : List TrackLemma) (lemma : TrackLemma) : Type 0 where
+  pub steps : (step : Step) → IsPossible k lemma.state step → StepFails value pins limit k earlier lemma step
+  pub ends : (HasFingers k lemma.state → ⊥)
+      → (track : NetNo → ℕ) → AreTracksOf lemma.tracks track → Ends pins limit k lemma.state track → ⊥
+
+-- a lemma on a valid state, whose open ends are of fingers that were used, and on tracks of nets that are open there
+pub record IsValid (pins : Pins) (k : Kinds) (lemma : TrackLemma) : Type 0 where
+  pub state : IsState k lemma.state
+  pub ends : EndsFit k lemma.state
+  pub open' : All (λ (t : NetTrack). is_open_at pins k lemma.state t.net ≡ true) lemma.tracks
+  pub one : IsSingle lemma.tracks
+
+-- a valid lemma, by the bound of a row or by its next columns
+pub record IsJustified
+    (value : Row → State → Kinds → ℕ) (pins : Pins) (limit : ℕ) (k : Kinds)
+    (earlier : List TrackLemma) (lemma : TrackLemma) : Type 0 where
+  pub valid : IsValid pins k lemma
+  pub holds : NeedsMore value k lemma.state lemma.gaps ⊎ Branches value pins limit k earlier lemma
+
+-- each lemma is justified by those before it
+abbrev pub AreJustified : (Row → State → Kinds → ℕ) → Pins → ℕ → Kinds → List TrackLemma → Type 0
+AreJustified value pins limit k lemmas =
+    (i : ℕ) (d : TrackLemma) → i < length lemmas
+    → IsJustified value pins limit k (take i lemmas) (slice_index_or lemmas i d)
+
+-- no completion of its state with that many further gaps goes on from its tracks
+abbrev pub IsTrueOf : Pins → ℕ → Kinds → TrackLemma → Type 0
+IsTrueOf pins limit k lemma =
+    (track : NetNo → ℕ) → AreTracksOf lemma.tracks track → Fails pins limit k lemma.state track lemma.gaps
+
+-- the lemma is about the state, as many gaps or more, and any tracks
+pub record CoversAll (s : State) (gaps : ℕ) (lemma : TrackLemma) : Type 0 where
+  pub state : lemma.state ≡ s
+  pub enough : gaps ≤ lemma.gaps
+  pub any : lemma.tracks ≡ []
+
+-- all lemmas are justified, and one is about the start state, that many gaps and any tracks
+pub record Certifies
+    (value : Row → State → Kinds → ℕ) (pins : Pins) (limit : ℕ) (k : Kinds) (gaps : ℕ) (lemmas : List TrackLemma)
+    : Type 0 where
+  pub justified : AreJustified value pins limit k lemmas
+  pub whole : Any (CoversAll (start_of k) gaps) lemmas
