@@ -30,7 +30,7 @@ pub record HasKinds (k : Kinds) (column : Column) : Type 0 where
 abbrev pub IsNumberOf : Row → List Kind → Finger → ℕ → Type 0
 IsNumberOf row kinds finger at = option_map (finger_of row) (slice_get kinds at) ≡ Some finger
 
--- what stands in the place, by one of the kinds
+-- what is in the place, by one of the kinds
 pub record IsSideOf (row : Row) (kinds : List Kind) (place : Option Placed) (side : Option Side) : Type 0 where
   pub placed : placed_of row kinds side ≡ place
   pub fits : SideFits kinds side

@@ -39,7 +39,7 @@ fn number_of(row: Row, kinds: &[Kind], finger: &Finger) -> u32
     }
 }
 
-// What stands in a place, by the number of its kind.
+// What is in a place, by the number of its kind.
 pub(crate) fn side(row: Row, kinds: &[Kind], place: &Option<Placed>) -> Option<Side>
     requires few { length kinds.now ≤ MOST_COLUMNS }
     requires kind { IfSome place.now (λ x. HasKind row kinds.now x.finger) }

@@ -1,5 +1,5 @@
 -- What the ends of trails say of the gaps of each arrangement.
-use Rattle.std.specs.Prelude.{ℕ, ◌≡◌, ◌≢◌, ◌+◌, ◌*◌, ◌≤◌, List, [], Option}
+use Rattle.std.specs.Prelude.{ℕ, ◌≡◌, ◌≢◌, ◌+◌, ◌*◌, ◌≤◌, List, [], Option, Some, None, Result, Ok, Err, IfOk}
 use Rattle.std.proofs.Common.{arith, subst, sym}
 use Rattle.cell_num.specs.declared.finger.Fingers.{Fingers}
 use Rattle.cell_num.specs.Fingers.{AreFingers}
@@ -7,13 +7,19 @@ use Rattle.row_model.specs.Gaps.{gaps_of}
 use Rattle.trail_state.specs.declared.level.Level.{Level}
 use Rattle.trail_state.proofs.Law.{levels_law}
 use Rattle.trail_state.specs.Levels.{AreLevels, Ends}
+use Rattle.row_state.specs.declared.kind.Kinds.{Kinds}
+use Rattle.bound_log.specs.declared.log.Best.{Best}
+use Rattle.log_check.specs.Accepted.{BestPasses}
 use Rattle.trail_log.specs.declared.trails.TrailCertificate.{TrailCertificate}
 use Rattle.trail_check.specs.declared.refusal.TrailRefusal.{TrailRefusal}
 use Rattle.trail_check.specs.declared.refusal.TrailRefusal.TheVariants as refusal
-use Rattle.trail_check.specs.Accepted.{IsLow}
+use Rattle.trail_check.specs.Accepted.{AreTrueOf, IsAccepted, IsLow, least_gaps, lemmas_of}
 use Rattle.trail_check.specs.Gates.{AreGates}
-use Rattle.trail_check.specs.Justified.{gaps_proved}
+use Rattle.trail_check.specs.Justified.{ends_proved, gaps_proved}
+use Rattle.trail_check.specs.Leveled.{levels_of}
 use Rattle.trail_check.specs.Refusal.{LemmasRefused, Proves}
+use Rattle.trail_check.proofs.Leveled.{levels_are}
+use Rattle.trail_check.proofs.Sound.{all_true, ends_true}
 
 half : (ends gaps : ℕ) → ends ≤ 2 * (gaps + 1) → gaps_proved ends ≤ gaps
 half ends gaps h = omega (arith, h)
@@ -29,6 +35,27 @@ row_low f trails levels ends gaps ok gates are holds few row arranges =
   where
     few_then : (a b c : ℕ) → a ≤ b → b ≤ c → a ≤ c
     few_then a b c h k = omega (arith, h, k)
+
+-- ---- an accepted certificate
+
+accepted_few : (k : Kinds) (f : Fingers) (best gaps : ℕ) (row : Option Best) → BestPasses k f best row gaps → gaps ≤ best
+accepted_few k f best gaps None passes = absurd passes
+accepted_few k f best gaps (Some row) passes = omega (arith, passes.said, passes.least)
+
+-- no arrangement has fewer gaps
+pub accepted_low : (f : Fingers) (trails : TrailCertificate) → AreFingers f → (gaps : ℕ) → IsAccepted f trails gaps → IsLow f gaps
+accepted_low f trails ok gaps h =
+    let (k, of_f, kinds, passes) = h.passes in
+    row_low f trails (levels_of f trails.order) (ends_proved (lemmas_of f trails)) gaps ok h.gates (levels_are f trails.order)
+    (ends_true (levels_of f trails.order) (lemmas_of f trails) 5 h.justified)
+    (accepted_few k f (least_gaps f trails) gaps trails.best passes)
+
+-- all its lemmas are true
+pub accepted_true : (f : Fingers) (trails : TrailCertificate) (r : Result ℕ TrailRefusal) → IfOk r (IsAccepted f trails) → IfOk r (λ _. AreTrueOf f trails)
+accepted_true f trails (Ok gaps) h = all_true (levels_of f trails.order) (lemmas_of f trails) 5 h.justified
+accepted_true f trails (Err cause) h = tt
+
+-- ---- refusals
 
 -- a refusal of a row tells the gaps that are proved
 pub refusal_low : (f : Fingers) (trails : TrailCertificate) (levels : List Level) (ends : ℕ) (cause : TrailRefusal) → AreFingers f → AreGates f trails → AreLevels f trails.order levels → Ends levels [] ends → Proves (λ (told : ℕ). told ≡ gaps_proved ends) cause → Proves (IsLow f) cause

@@ -23,6 +23,11 @@ are_levels f (g ∷ gs) (l ∷ ls) (first, rest) =
     let later : ls ≡ levels_of f gs = are_levels f gs ls rest in
     λ i. record { now = first.now i; next = first.next i; choices = first.choices i } ∷ later i
 
+pub levels_are : (f : Fingers) (order : List NetNo) → AreLevels f order (levels_of f order)
+unfolding levels_of
+levels_are f [] = tt
+levels_are f (g ∷ gs) = (record { now = refl; next = refl; choices = refl }, levels_are f gs)
+
 few_open : (f : Fingers) (gates : List NetNo) → f.nets ≤ 256 → length (open_nodes f gates) ≤ 65536
 few_open f gates few =
     let all : List ℕ = range_with_len 0 (256 * f.nets) in

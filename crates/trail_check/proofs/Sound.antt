@@ -14,7 +14,7 @@ use Rattle.trail_state.specs.declared.level.Level.{Level}
 use Rattle.trail_state.specs.Levels.{Ends}
 use Rattle.log_lines.proofs.Numbers.{chosen}
 use Rattle.trail_check.specs.declared.lemma.TrailLemma.{TrailLemma}
-use Rattle.trail_check.specs.Justified.{better, choice_reaches, ends_proved, is_justified, is_known, is_start, level_reaches, same_place, same_state, says, unproved}
+use Rattle.trail_check.specs.Justified.{IsTrueOf, better, choice_reaches, ends_proved, is_justified, is_known, is_start, level_reaches, same_place, same_state, says, unproved}
 
 -- ---- ends
 
@@ -70,9 +70,6 @@ state_is (x ∷ xs) (y ∷ ys) h =
 
 -- ---- lemmas
 
-abbrev pub IsTrueOf : List Level → TrailLemma → Type 0
-IsTrueOf levels lemma = Ends (drop lemma.done levels) lemma.state lemma.bound
-
 said_true : (levels : List Level) (lemma : TrailLemma) (done : ℕ) (s : List Place) (need : ℕ) → IsTrueOf levels lemma → says done s need lemma ≡ true → Ends (drop done levels) s need
 said_true levels lemma done s need holds h =
     let one = and_parts _ _ h in
@@ -124,7 +121,7 @@ justified_true levels earlier lemma holds h = by_level (slice_get levels lemma.d
         known_true levels earlier (lemma.done + 1) (state_after level.now level.next lemma.state c) (lemma.bound - ends_after level.now level.next lemma.state c) holds
         (All-contains (λ (x : List Edge). choice_reaches earlier level lemma x ≡ true) level.choices c (passes (choice_reaches earlier level lemma) level.choices on) within))
 
-pub sound : (levels : List Level) (earlier lemmas : List TrailLemma) (n : ℕ) → All (IsTrueOf levels) earlier → unproved levels earlier n lemmas ≡ None → All (IsTrueOf levels) (earlier ++ lemmas)
+sound : (levels : List Level) (earlier lemmas : List TrailLemma) (n : ℕ) → All (IsTrueOf levels) earlier → unproved levels earlier n lemmas ≡ None → All (IsTrueOf levels) (earlier ++ lemmas)
 unfolding unproved
 sound levels earlier [] n holds h = subst (All (IsTrueOf levels)) (sym (append-nil earlier)) holds
 sound levels earlier (x ∷ xs) n holds h =
@@ -159,6 +156,9 @@ best_true : (levels : List Level) (most : ℕ) (lemmas : List TrailLemma) → En
 best_true levels most [] so holds = so
 best_true levels most (x ∷ xs) so holds = best_true levels (better most x) xs (better_true levels most x so (All-head (IsTrueOf levels) x xs holds)) (All-tail (IsTrueOf levels) x xs holds)
 
+pub all_true : (levels : List Level) (lemmas : List TrailLemma) (n : ℕ) → unproved levels [] n lemmas ≡ None → All (IsTrueOf levels) lemmas
+all_true levels lemmas n h = sound levels [] lemmas n (All-nil (IsTrueOf levels)) h
+
 -- what justified lemmas prove of every list of choices
 pub ends_true : (levels : List Level) (lemmas : List TrailLemma) (n : ℕ) → unproved levels [] n lemmas ≡ None → Ends levels [] (ends_proved lemmas)
-ends_true levels lemmas n h = best_true levels 0 lemmas (ends_none levels []) (sound levels [] lemmas n (All-nil (IsTrueOf levels)) h)
+ends_true levels lemmas n h = best_true levels 0 lemmas (ends_none levels []) (all_true levels lemmas n h)

@@ -1,5 +1,5 @@
 -- Which certificates are accepted.
-use Rattle.std.specs.Prelude.{ℕ, ◌≡◌, ◌≤◌, List, [], Option, None}
+use Rattle.std.specs.Prelude.{ℕ, ◌≡◌, ◌≤◌, List, [], Option, None, All}
 use Rattle.cell_num.specs.declared.finger.Fingers.{Fingers}
 use Rattle.row_model.specs.declared.column.Column.{Column}
 use Rattle.row_model.specs.Arrangement.{IsArrangement}
@@ -9,7 +9,7 @@ use Rattle.log_check.specs.Accepted.{BestPasses, WithKinds}
 use Rattle.trail_log.specs.declared.trails.TrailCertificate.{TrailCertificate}
 use Rattle.trail_check.specs.declared.lemma.TrailLemma.{TrailLemma}
 use Rattle.trail_check.specs.Gates.{AreGates, first_with_many}
-use Rattle.trail_check.specs.Justified.{ends_proved, gaps_proved, unproved}
+use Rattle.trail_check.specs.Justified.{IsTrueOf, ends_proved, gaps_proved, unproved}
 use Rattle.trail_check.specs.Leveled.{levels_of}
 use Rattle.trail_check.specs.Listed.{lemmas_listed}
 
@@ -19,6 +19,10 @@ lemmas_of f trails = lemmas_listed (levels_of f trails.order) trails.lemmas
 -- the line of the first lemma that is not justified; the first lemma stands at line 5
 abbrev pub first_unproved : Fingers → TrailCertificate → Option ℕ
 first_unproved f trails = unproved (levels_of f trails.order) [] 5 (lemmas_of f trails)
+
+-- each lemma of the certificate is true
+abbrev pub AreTrueOf : Fingers → TrailCertificate → Type 0
+AreTrueOf f trails = All (IsTrueOf (levels_of f trails.order)) (lemmas_of f trails)
 
 -- the gaps that the lemmas prove of every row
 abbrev pub least_gaps : Fingers → TrailCertificate → ℕ

@@ -1,6 +1,6 @@
 -- Which lemmas are justified by those before them, and what justified lemmas prove.
 use Rattle.std.specs.Prelude.{ℕ, ◌+◌, ◌-◌, ◌/◌, ◌==◌, ◌&&◌, ◌||◌, Bool, false, nat_le, cond, max, List, [], ◌∷◌, ◌++◌}
-use Rattle.std.specs.Prelude.{Option, Some, None, fold, length, slice_get, if◌then◌else◌}
+use Rattle.std.specs.Prelude.{Option, Some, None, drop, fold, length, slice_get, if◌then◌else◌}
 use Rattle.std.proofs.Math.Bool.{beq}
 use Rattle.std.specs.Cmp.Lexicographic.{pointwise}
 use Rattle.std.specs.List.{list_all, list_any}
@@ -8,6 +8,7 @@ use Rattle.trail_state.specs.declared.edge.Edge.{Edge}
 use Rattle.trail_state.specs.declared.state.Place.{Place}
 use Rattle.trail_state.specs.Settling.{ends_after, state_after}
 use Rattle.trail_state.specs.declared.level.Level.{Level}
+use Rattle.trail_state.specs.Levels.{Ends}
 use Rattle.trail_check.specs.declared.lemma.TrailLemma.{TrailLemma}
 
 abbrev pub same_place : Place → Place → Bool
@@ -44,6 +45,10 @@ unfoldable pub unproved : List Level → List TrailLemma → ℕ → List TrailL
 unproved levels earlier n [] = None
 unproved levels earlier n (lemma ∷ lemmas) =
     if is_justified levels earlier lemma then unproved levels (earlier ++ lemma ∷ []) (n + 1) lemmas else Some n
+
+-- the lemma is true: from its state on, each list of choices of the gates left results in as many ends
+abbrev pub IsTrueOf : List Level → TrailLemma → Type 0
+IsTrueOf levels lemma = Ends (drop lemma.done levels) lemma.state lemma.bound
 
 -- a lemma on the state before the first gate
 abbrev pub is_start : TrailLemma → Bool

@@ -1,6 +1,6 @@
-ghost use Rattle.std.specs.Prelude.{◌≡◌, ◌≢◌, ◌≤◌, IfErr, IfOk, None, length};
+ghost use Rattle.std.specs.Prelude.{◌≡◌, ◌≢◌, ◌≤◌, IfErr, IfOk, None, length, ℕ};
 ghost use Rattle.cell_num.specs.Fingers.{AreFingers};
-ghost use Rattle.trail_check.specs.Accepted.{IsAccepted, IsLow};
+ghost use Rattle.trail_check.specs.Accepted.{AreTrueOf, IsAccepted, IsLow};
 ghost use Rattle.trail_check.specs.Gates.{AreGates, first_with_many};
 ghost use Rattle.trail_check.specs.Refusal.{Proves, Refuses};
 ghost use Rattle.trail_check.specs.declared.refusal.TrailRefusal.TheVariants as refusal;
@@ -34,7 +34,8 @@ fn check_listed(
 }
 
 /// The gaps of the row that the certificate lists, where it is accepted: no arrangement of the fingers has fewer. Else
-/// the first cause to refuse it. At most [`MOST_BYTES`] lemmas.
+/// the first cause to refuse it. Each lemma of an accepted certificate is true. At most [`MOST_BYTES`] lemmas.
+#[tactic(auto, using(crate::proofs::Least::accepted_low, crate::proofs::Least::accepted_true))]
 pub fn check_trails(
     alloc: Global,
     fingers: &Fingers,
@@ -46,6 +47,8 @@ pub fn check_trails(
     ensures refused { IfErr result (λ cause. cause ≢ refusal.NoMemory → Refuses fingers.now trails.now cause) }
     ensures least { IfOk result (IsLow fingers.now) }
     ensures low { IfErr result (Proves (IsLow fingers.now)) }
+    ensures law { (gaps : ℕ) → IsAccepted fingers.now trails.now gaps → IsLow fingers.now gaps }
+    ensures lemmas { IfOk result (λ _. AreTrueOf fingers.now trails.now) }
 {
     if !are_gates(fingers, trails) {
         return Err(TrailRefusal::Gates);

@@ -21,7 +21,7 @@ pub record ClassFits (nets : ℕ) (class : Class) : Type 0 where
   pub some : 1 ≤ length class.nodes
   pub nodes : All (NodeFits nets) class.nodes
 
--- a bound from 1 to 64, behind fewer gates than a row has columns, over pairs of nets in order
+-- a bound from 1 to 64, after fewer gates than a row has columns, over pairs of nets in order
 pub record LemmaFits (nets : ℕ) (lemma : LemmaLine) : Type 0 where
   pub some : 1 ≤ lemma.bound
   pub few : lemma.bound ≤ 64

@@ -9,7 +9,7 @@ use Rattle.trail_log.specs.declared.trails.LemmaLine.{LemmaLine}
 use Rattle.trail_log.specs.declared.trails.TrailEntry.{TrailEntry}
 use Rattle.trail_log.specs.declared.trails.TrailEntry.TheVariants as entry
 
--- behind the word `lemma`; free ends are none
+-- after the word `lemma`; free ends are none
 abbrev pub lemma_in : ℕ → List (List ℕ) → Option LemmaLine
 lemma_in nets (bound ∷ done ∷ odd ∷ free ∷ classes ∷ []) = do
   ends ← number_below 65 bound

@@ -36,7 +36,7 @@ abbrev pub class_with : ℕ → Bool → List ℕ → Option Class
 class_with nets flagged word = option_map (λ nodes. record { nodes = nodes; flagged = flagged })
     (each_in (node_in nets) (parts_at 43 word))
 
--- with `!` (byte 33) behind it, or none
+-- with `!` (byte 33) after it, or none
 abbrev pub class_of : ℕ → List (List ℕ) → Option Class
 class_of nets (nodes ∷ []) = class_with nets false nodes
 class_of nets (nodes ∷ [] ∷ []) = class_with nets true nodes

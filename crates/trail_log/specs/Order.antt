@@ -21,7 +21,7 @@ abbrev pub first_rank : List NetPair → ℕ
 first_rank [] = 0
 first_rank (node ∷ nodes) = node_rank node
 
--- a class stands by its first node
+-- the rank of a class is that of its first node
 abbrev pub class_rank : Class → ℕ
 class_rank class = first_rank class.nodes
 

@@ -15,9 +15,9 @@ use Rattle.trail_log.specs.declared.trails.TrailEntry.TheVariants as entry
 use Rattle.trail_log.specs.Line.{entry_in, fill_in, order_in}
 use Rattle.trail_log.specs.Text.{version_line}
 
--- Below, line n is the first of the lines, and the rest are the bytes behind the last one.
+-- Below, line n is the first of the lines, and the rest are the bytes after the last one.
 
--- a lemma before those of a certificate, or the line behind the lemmas and what it asks for
+-- a lemma before those of a certificate, or the line after the lemmas and what it asks for
 abbrev pub begun_by : List NetNo → List NetNo → TrailEntry → Result TrailCertificate LogFault
     → Result (List LogStep) LogFault → Result (Unit {0}) LogFault → Result TrailCertificate LogFault
 begun_by fill order (entry.Lemma lemma) trails columns end =
@@ -46,28 +46,28 @@ lemmas_at fill order k n (line ∷ lines) rest = do
   begun_by fill order first (lemmas_at fill order k (n + 1) lines rest) (columns_at k (n + 1) lines rest)
       (end_at (n + 1) lines rest)
 
--- the line of the order, and the lemmas behind it
+-- the line of the order, and the lemmas after it
 abbrev pub order_at : List NetNo → Kinds → List (List ℕ) → List ℕ → Result TrailCertificate LogFault
 order_at fill k [] rest = Err fault.Cut
 order_at fill k (line ∷ lines) rest = do
   order ← or_fault (order_in k.nets (words_in line)) (fault.Line 4)
   lemmas_at fill order k 5 lines rest
 
--- the line of the filled gates, and the order behind it
+-- the line of the filled gates, and the order after it
 abbrev pub fill_at : Kinds → List (List ℕ) → List ℕ → Result TrailCertificate LogFault
 fill_at k [] rest = Err fault.Cut
 fill_at k (line ∷ lines) rest = do
   fill ← or_fault (fill_in k.nets (words_in line)) (fault.Line 3)
   order_at fill k lines rest
 
--- the line of the name, and the filled gates behind it
+-- the line of the name, and the filled gates after it
 abbrev pub named_at : List ℕ → Kinds → List (List ℕ) → List ℕ → Result TrailCertificate LogFault
 named_at name k [] rest = Err fault.Cut
 named_at name k (line ∷ lines) rest = do
   _ ← require (is_word line (codes "cell " ++ name)) fault.Cell
   fill_at k lines rest
 
--- the line of the version, and the line of the name behind it
+-- the line of the version, and the line of the name after it
 abbrev pub text_at : List ℕ → Kinds → List (List ℕ) → List ℕ → Result TrailCertificate LogFault
 text_at name k [] rest = Err fault.Cut
 text_at name k (line ∷ lines) rest = do

@@ -21,7 +21,7 @@ abbrev pub flag_text : Bool → List ℕ
 flag_text true = codes "!"
 flag_text false = []
 
--- nodes with `+` (byte 43) between, and `!` behind those of a flagged class
+-- nodes with `+` (byte 43) between, and `!` after those of a flagged class
 abbrev pub class_text : Class → List ℕ
 class_text class = join_with_byte 43 (map node_text class.nodes) ++ flag_text class.flagged
 

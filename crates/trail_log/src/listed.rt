@@ -18,7 +18,7 @@ pub trait Listed: Drop + Sized {
     /// What the word says, over this number of nets.
     ghost said: { ℕ → Sequence ℕ → Option Self };
 
-    /// Where it stands among others.
+    /// Its place among others.
     ghost place: { Self → ℕ };
 
     fn read(alloc: Global, nets: u32, word: &[u8]) -> Result<Option<Self>, NoMemory>
@@ -113,7 +113,7 @@ pub(crate) fn list_text<T: Listed>(alloc: Global, items: &[T]) -> Result<Bytes, 
     Ok(text)
 }
 
-/// Whether each stands before the next.
+/// Whether each is before the next.
 pub(crate) fn increases<T: Listed>(items: &[T]) -> bool
     ensures { result ≡ increases T.place items.now }
 {

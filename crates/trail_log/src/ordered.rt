@@ -38,7 +38,7 @@ pub(crate) fn read_odd(alloc: Global, nets: u32, word: &[u8]) -> Result<Option<N
     }
 }
 
-/// Classes that stand in order, the pairs of each one too.
+/// Classes in order, the pairs of each one too.
 pub(crate) fn read_classes(
     alloc: Global,
     nets: u32,

@@ -25,7 +25,7 @@ use Rattle.row_search.proofs.Least.{further_le}
 use Rattle.trail_log.specs.Fits.{TrailsFit}
 use Rattle.trail_check.specs.Accepted.{IsLow, least_gaps}
 use Rattle.trail_search.specs.declared.proof.Proof.{Proof}
-use Rattle.trail_search.specs.Proof.{IsMost, IsProof}
+use Rattle.trail_search.specs.Proof.{HasReached, IsMost, IsProof}
 use Rattle.trail_search.proofs.Proved.{ends_gaps}
 use Rattle.trail_search.specs.declared.first.ListedRow.{ListedRow}
 use Rattle.trail_search.specs.Searched.{AreSearched}
@@ -100,29 +100,29 @@ certified k f proof steps of_f kinds p h =
       };
     }
 
-pub found_is : (k : Kinds) (f : Fingers) (budget nodes : ℕ) (proof : Proof) (listed : ListedRow) → AreKinds f k → AreSomeKinds k → IsProof f proof → IsFirstRow k proof.gaps listed → nodes ≤ budget → length proof.trails.lemmas ≤ nodes → IsTrailFound f budget listed.row (with_best proof.trails listed.best) nodes
-found_is k f budget nodes proof listed of_f kinds p h few kept =
-    subst (λ (z : ListedRow). IsTrailFound f budget z.row (with_best proof.trails z.best) nodes) (sym h.is)
+pub found_is : (k : Kinds) (f : Fingers) (budget : ℕ) (proof : Proof) (listed : ListedRow) → AreKinds f k → AreSomeKinds k → IsProof f proof → IsFirstRow k proof.gaps listed → length proof.trails.lemmas ≤ budget → IsTrailFound f budget listed.row (with_best proof.trails listed.best)
+found_is k f budget proof listed of_f kinds p h kept =
+    subst (λ (z : ListedRow). IsTrailFound f budget z.row (with_best proof.trails z.best)) (sym h.is)
     (record {
       first = first_least k f proof.gaps h.steps of_f p.least h.first;
       certified = (k, of_f, kinds, certified k f proof h.steps of_f kinds p h.first);
-      few = few;
+      new = p.new;
+      reached = subst (HasReached f proof.trails) (sym (gaps_are k f proof.gaps h.steps of_f p.least h.first)) p.reached;
       kept = kept;
     })
 
-pub spent_is : (k : Kinds) (f : Fingers) (budget nodes : ℕ) (proof : Proof) → AreKinds f k → AreSomeKinds k → IsProof f proof → nodes ≤ budget → (nodes ≡ budget) ⊎ ((other : List Column) → IsArrangement other f → proof.gaps < gaps_of other) → length proof.trails.lemmas ≤ nodes → (budget ≤ length proof.trails.lemmas + length proof.trails.order) ⊎ IsMost f proof.trails.order proof.gaps → ((other : List Column) → IsArrangement other f → proof.gaps < gaps_of other) ⊎ AreSearched k (proof.gaps + 1) (row_nodes budget proof.trails) (columns_of f) → IsTrailSpent f budget proof.trails proof.gaps nodes
-spent_is k f budget nodes proof of_f kinds p few why kept work rows =
+pub spent_is : (k : Kinds) (f : Fingers) (budget : ℕ) (proof : Proof) → AreKinds f k → AreSomeKinds k → IsProof f proof → length proof.trails.lemmas ≤ budget → (budget ≤ length proof.trails.lemmas + length proof.trails.order) ⊎ IsMost f proof.trails.order proof.gaps → ((other : List Column) → IsArrangement other f → proof.gaps < gaps_of other) ⊎ AreSearched k (proof.gaps + 1) (row_nodes budget proof.trails) (columns_of f) → IsTrailSpent f budget proof.trails proof.gaps
+spent_is k f budget proof of_f kinds p kept work rows =
     record {
       lists_none = subst IsNone (sym p.rowless) refl;
       gates = p.gates;
       few_ways = p.few_ways;
       justified = p.justified;
       new = p.new;
+      reached = p.reached;
       best = p.gaps;
       low = p.least;
       fits = (k, of_f, kinds, p.fits k of_f.nets);
-      few = few;
-      spent = why;
       kept = kept;
       work = work;
       rows = elim rows [

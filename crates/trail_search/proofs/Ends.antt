@@ -118,11 +118,16 @@ gaps_more a b =
     halved : (m n : ℕ) → m ≤ n → (m - 1) / 2 ≤ (n - 1) / 2
     halved m n l = omega (arith, l)
 
+-- what is proved is no less where more lemmas are kept
+pub limit_least : (levels : List Level) (a b : Kept) (limit : ℕ) → IsFurther levels a b → limit ≤ gaps_proved (ends_proved a.lemmas) → limit ≤ gaps_proved (ends_proved b.lemmas)
+limit_least levels a b limit g reached =
+    let more : gaps_proved (ends_proved a.lemmas) ≤ gaps_proved (ends_proved b.lemmas) = subst (λ (ls : List TrailLemma). gaps_proved (ends_proved a.lemmas) ≤ gaps_proved (ends_proved ls)) (sym g.grown) (gaps_more a.lemmas g.more) in
+    omega (arith, reached, more)
+
 -- the first limit that is not refuted is the most that can be proved
 pub limit_most : (levels : List Level) (a b : Kept) (s : List Place) (limit ends : ℕ) → IsFurther levels a b → limit ≤ gaps_proved (ends_proved a.lemmas) → s ≡ [] → ends ≡ 2 * (limit + 1) → (Ends (drop 0 levels) s (ends + 1) → ⊥) → Ends levels [] (2 * (gaps_proved (ends_proved b.lemmas) + 1) + 1) → ⊥
 limit_most levels a b s limit ends g reached none is few all =
-    let more : gaps_proved (ends_proved a.lemmas) ≤ gaps_proved (ends_proved b.lemmas) = subst (λ (ls : List TrailLemma). gaps_proved (ends_proved a.lemmas) ≤ gaps_proved (ends_proved ls)) (sym g.grown) (gaps_more a.lemmas g.more) in
-    not_refuted levels s limit ends none is few (ends_fewer levels [] (2 * (limit + 1) + 1) (2 * (gaps_proved (ends_proved b.lemmas) + 1) + 1) all (omega (arith, reached, more)))
+    not_refuted levels s limit ends none is few (ends_fewer levels [] (2 * (limit + 1) + 1) (2 * (gaps_proved (ends_proved b.lemmas) + 1) + 1) all (omega (arith, limit_least levels a b limit g reached)))
 
 pub most_is : (f : Fingers) (order : List NetNo) (levels : List Level) (gaps proved : ℕ) → levels ≡ levels_of f order → gaps ≡ proved → (Ends levels [] (2 * (proved + 1) + 1) → ⊥) → IsMost f order gaps
 most_is f order levels gaps proved same is few all =

@@ -11,5 +11,6 @@ pub mod StateListed
 pub mod New
 pub mod Orders
 pub mod Proved
+pub mod Reached
 pub mod States
 pub mod Tied

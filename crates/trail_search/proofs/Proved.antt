@@ -36,11 +36,13 @@ use Rattle.trail_check.specs.Indexed.{IsIndexOf}
 use Rattle.trail_check.specs.Justified.{ends_proved, gaps_proved, unproved}
 use Rattle.trail_check.specs.Leveled.{levels_of}
 use Rattle.trail_check.specs.Listed.{lemmas_listed, nodes_of}
+use Rattle.trail_check.proofs.Leveled.{levels_are}
 use Rattle.trail_check.proofs.Sound.{ends_true}
 use Rattle.trail_search.specs.declared.kept.Kept.{Kept}
 use Rattle.trail_search.specs.declared.proof.Proof.{Proof}
 use Rattle.trail_search.specs.Line.{AllNodes, AreNodes, IsNode}
 use Rattle.trail_search.specs.Proof.{AttemptsOnce, IsProof, uneven_gates}
+use Rattle.trail_search.specs.Reached.{AreReached}
 use Rattle.trail_search.specs.Search.{AreChained, AreKept, AreNew, AreTied}
 use Rattle.trail_search.proofs.Finds.{found_is}
 use Rattle.trail_search.proofs.Lines.{level_nodes}
@@ -138,11 +140,6 @@ pub kept_least : (f : Fingers) (order : List NetNo) (levels : List Level) (kept 
 kept_least f order levels kept gaps ok is are h e row arranges =
     omega (arith, e, levels_law f ok order is levels (ends_proved kept.lemmas) are (ends_true levels kept.lemmas 5 h.justified) row arranges)
 
-levels_are : (f : Fingers) (order : List NetNo) → AreLevels f order (levels_of f order)
-unfolding levels_of
-levels_are f [] = tt
-levels_are f (g ∷ gs) = (record { now = refl; next = refl; choices = refl }, levels_are f gs)
-
 -- where no choices come to as few ends as a row of so many gaps has, each row has more
 pub ends_gaps : (f : Fingers) (order : List NetNo) (gaps : ℕ) → AreFingers f → IsOrder f order → Ends (levels_of f order) [] (2 * (gaps + 1) + 1) → (row : List Column) → IsArrangement row f → gaps < gaps_of row
 ends_gaps f order gaps ok is ends row arranges =
@@ -152,14 +149,15 @@ ends_gaps f order gaps ok is ends row arranges =
 pub gate_crowded : (f : Fingers) (order : List NetNo) (o : Option NetNo) (gate : NetNo) → o ≡ first_with_many f order → o ≡ Some gate → has_many_ways f gate ≡ true
 gate_crowded f order o gate is some = (found_is (has_many_ways f) order gate (sym is ∙ some)).passes
 
-pub is_proof : (f : Fingers) (proof : Proof) (levels : List Level) (kept : Kept) → AreFingers f → IsOrder f proof.trails.order → first_with_many f proof.trails.order ≡ None → AreLevels f proof.trails.order levels → levels ≡ levels_of f proof.trails.order → AreKept levels kept → proof.trails.fill ≡ uneven_gates f → proof.trails.lemmas ≡ kept.lines → proof.trails.best ≡ None → proof.gaps ≡ gaps_proved (ends_proved kept.lemmas) → IsProof f proof
-is_proof f proof levels kept ok is few are same h fill lines none gaps =
+pub is_proof : (f : Fingers) (proof : Proof) (levels : List Level) (kept : Kept) → AreFingers f → IsOrder f proof.trails.order → first_with_many f proof.trails.order ≡ None → AreLevels f proof.trails.order levels → levels ≡ levels_of f proof.trails.order → AreKept levels kept → AreReached levels (gaps_proved (ends_proved kept.lemmas)) kept.lemmas → proof.trails.fill ≡ uneven_gates f → proof.trails.lemmas ≡ kept.lines → proof.trails.best ≡ None → proof.gaps ≡ gaps_proved (ends_proved kept.lemmas) → IsProof f proof
+is_proof f proof levels kept ok is few are same h reached fill lines none gaps =
     let listed : lemmas_listed (levels_of f proof.trails.order) proof.trails.lemmas ≡ kept.lemmas = ap (λ (ls : List Level). lemmas_listed ls proof.trails.lemmas) (sym same) ∙ ap (lemmas_listed levels) lines ∙ h.listed in
     record {
       gates = record { order = is; filled = λ g differ. subst (λ (gs : List NetNo). Contains gs g) (sym fill) (fill_has f g ok differ) };
       few_ways = few;
       justified = ap (unproved (levels_of f proof.trails.order) [] 5) listed ∙ ap (λ (ls : List Level). unproved ls [] 5 kept.lemmas) (sym same) ∙ h.justified;
       new = subst (AreNew (levels_of f proof.trails.order)) (sym listed) (subst (λ (ls : List Level). AreNew ls kept.lemmas) same h.new);
+      reached = subst (AreReached (levels_of f proof.trails.order) proof.gaps) (sym listed) (subst (λ (ls : List Level). AreReached ls proof.gaps kept.lemmas) same (subst (λ (n : ℕ). AreReached levels n kept.lemmas) (sym gaps) reached));
       rowless = none;
       fill = fill;
       gaps = gaps ∙ ap (λ (ls : List TrailLemma). gaps_proved (ends_proved ls)) (sym listed);
@@ -181,10 +179,11 @@ refuted f order levels kept limit gaps ok is are h e more row arranges =
     below a b l = grind (arith, l)
 
 -- the nodes of a search that began without lemmas went for those that it kept
-pub attempted : (f : Fingers) (order : List NetNo) (levels : List Level) (before after : Kept) (left left_after others : ℕ) → IsOrder f order → AreLevels f order levels → levels ≡ levels_of f order → before.lemmas ≡ [] → AreKept levels after → others ≤ length levels + 1 → AreTied before after left left_after others → AttemptsOnce f left left_after
-attempted f order levels before after left left_after others is are same none h few tied =
+pub attempted : (f : Fingers) (order : List NetNo) (levels : List Level) (before after : Kept) (limit left left_after others : ℕ) → IsOrder f order → AreLevels f order levels → levels ≡ levels_of f order → before.lemmas ≡ [] → AreKept levels after → AreReached levels limit after.lemmas → others ≤ length levels + 1 → AreTied before after left left_after others → AttemptsOnce f limit left left_after
+attempted f order levels before after limit left left_after others is are same none h reached few tied =
     inr (record {
-      attempt = record { order = order; lemmas = after.lemmas };
-      is = record { order = is; justified = ap (λ (ls : List Level). unproved ls [] 5 after.lemmas) (sym same) ∙ h.justified; new = subst (λ (ls : List Level). AreNew ls after.lemmas) same h.new };
+      attempt = record { limit = limit; order = order; lemmas = after.lemmas };
+      is = record { order = is; justified = ap (λ (ls : List Level). unproved ls [] 5 after.lemmas) (sym same) ∙ h.justified; new = subst (λ (ls : List Level). AreNew ls after.lemmas) same h.new; reached = subst (λ (ls : List Level). AreReached ls limit after.lemmas) same reached };
+      tried = refl;
       many = omega (arith, tied.many, as_many f order levels are, few, ap length none);
     })

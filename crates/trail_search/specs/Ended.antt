@@ -13,10 +13,7 @@ use Rattle.trail_log.specs.declared.trails.TrailCertificate.{TrailCertificate}
 use Rattle.trail_log.specs.Fits.{TrailsFit}
 use Rattle.trail_check.specs.Accepted.{IsAccepted, IsLow, first_unproved, least_gaps}
 use Rattle.trail_check.specs.Gates.{AreGates, first_with_many, has_many_ways}
-use Rattle.trail_check.specs.Leveled.{levels_of}
-use Rattle.trail_check.specs.Listed.{lemmas_listed}
-use Rattle.trail_search.specs.Proof.{IsMost}
-use Rattle.trail_search.specs.Search.{AreNew}
+use Rattle.trail_search.specs.Proof.{HasNew, HasReached, IsMost}
 use Rattle.trail_search.specs.Searched.{AreSearched}
 use Rattle.trail_search.specs.declared.found.TrailFound.{TrailFound}
 use Rattle.trail_search.specs.declared.found.TrailStop.{TrailStop}
@@ -28,43 +25,39 @@ pub record IsCertified (k : Kinds) (f : Fingers) (row : List Column) (trails : T
   pub lists : Lists k trails.best (λ listed. listed ≡ row)
   pub fits : TrailsFit k trails
 
--- the row is the first least one, and is certified; a node was spent for each lemma
-pub record IsTrailFound (f : Fingers) (budget : ℕ) (row : List Column) (trails : TrailCertificate) (nodes : ℕ) : Type 0
-  where
-    pub first : IsFirstLeast f row
-    pub certified : WithKinds f (λ k. IsCertified k f row trails)
-    pub few : nodes ≤ budget
-    pub kept : length trails.lemmas ≤ nodes
+-- The row is the first least one, and is certified. No lemma is said by an earlier one, and each is on a state that
+-- is reached while a row of at most these gaps is looked for. There is a node of the budget for each.
+pub record IsTrailFound (f : Fingers) (budget : ℕ) (row : List Column) (trails : TrailCertificate) : Type 0 where
+  pub first : IsFirstLeast f row
+  pub certified : WithKinds f (λ k. IsCertified k f row trails)
+  pub new : HasNew f trails
+  pub reached : HasReached f trails (gaps_of row)
+  pub kept : length trails.lemmas ≤ budget
 
 -- every arrangement has more gaps
 abbrev pub HaveMore : Fingers → ℕ → Type 0
 HaveMore f gaps = (other : List Column) → IsArrangement other f → gaps < gaps_of other
-
--- no lemma of the certificate is said by an earlier one
-abbrev pub HasNew : Fingers → TrailCertificate → Type 0
-HasNew f trails = AreNew (levels_of f trails.order) (lemmas_listed (levels_of f trails.order) trails.lemmas)
 
 -- the nodes of the budget but those of the lemmas, one of each gate and one at the end
 abbrev pub row_nodes : ℕ → TrailCertificate → ℕ
 row_nodes budget trails = budget - (length trails.lemmas + length trails.order + 1)
 
 -- The certificate lists no row. Its gates are as a checker asks, and all its lemmas are justified: they prove that no
--- arrangement has fewer gaps. No lemma is said by an earlier one. The budget is spent, or no arrangement has as few.
--- A node was spent for each lemma. The lemmas are as many as the budget has nodes, but for one of each gate; or no
--- lemmas in this order prove more gaps. No arrangement has as few gaps; or the nodes for rows, but for one of each
--- column, went for bounds of states, and for attempts to refute states by trails.
-pub record IsTrailSpent (f : Fingers) (budget : ℕ) (trails : TrailCertificate) (proved nodes : ℕ) : Type 0 where
+-- arrangement has fewer gaps. No lemma is said by an earlier one, and each is on a state that is reached while a row of
+-- at most these gaps is looked for. There is a node of the budget for each. The lemmas are as many as the budget has
+-- nodes, except one of each gate; or no lemmas in this order prove more gaps. No arrangement has as few gaps; or the
+-- nodes for rows, except one of each column, went for bounds of states, and for attempts to refute states by trails.
+pub record IsTrailSpent (f : Fingers) (budget : ℕ) (trails : TrailCertificate) (proved : ℕ) : Type 0 where
   pub lists_none : IsNone trails.best
   pub gates : AreGates f trails
   pub few_ways : first_with_many f trails.order ≡ None
   pub justified : first_unproved f trails ≡ None
   pub new : HasNew f trails
+  pub reached : HasReached f trails proved
   pub best : proved ≡ least_gaps f trails
   pub low : IsLow f proved
   pub fits : WithKinds f (λ k. TrailsFit k trails)
-  pub few : nodes ≤ budget
-  pub spent : (nodes ≡ budget) ⊎ ((other : List Column) → IsArrangement other f → proved < gaps_of other)
-  pub kept : length trails.lemmas ≤ nodes
+  pub kept : length trails.lemmas ≤ budget
   pub work : (budget ≤ length trails.lemmas + length trails.order) ⊎ IsMost f trails.order proved
   pub rows : HaveMore f proved ⊎ WithKinds f (λ k. AreSearched k (proved + 1) (row_nodes budget trails) (columns_of f))
 
@@ -73,9 +66,9 @@ abbrev pub IsCrowded : Fingers → NetNo → Type 0
 IsCrowded f gate = has_many_ways f gate ≡ true
 
 abbrev pub IsFound : Fingers → ℕ → TrailFound → Type 0
-IsFound f budget found = IsTrailFound f budget found.row found.trails found.nodes
+IsFound f budget found = IsTrailFound f budget found.row found.trails
 
 abbrev pub Stops : Fingers → ℕ → TrailStop → Type 0
-Stops f budget (stopped.Unfinished trails proved nodes) = IsTrailSpent f budget trails proved nodes
+Stops f budget (stopped.Unfinished trails proved) = IsTrailSpent f budget trails proved
 Stops f budget (stopped.Choices gate) = IsCrowded f gate
 Stops f budget stopped.NoMemory = Unit {0}

@@ -3,6 +3,7 @@ pub mod Behind
 pub mod Ended
 pub mod Searched
 pub mod Proof
+pub mod Reached
 pub mod Search
 -- What inner contracts and proofs alone cite.
 pub mod First

@@ -17,6 +17,7 @@ use Rattle.trail_check.specs.Gates.{AreGates, first_with_many, has_many_ways}
 use Rattle.trail_check.specs.Justified.{unproved}
 use Rattle.trail_check.specs.Leveled.{levels_of}
 use Rattle.trail_check.specs.Listed.{lemmas_listed}
+use Rattle.trail_search.specs.Reached.{AreReached}
 use Rattle.trail_search.specs.Search.{AreNew}
 use Rattle.trail_search.specs.declared.proof.RefuteStop.{RefuteStop}
 use Rattle.trail_search.specs.declared.proof.RefuteStop.TheVariants as ended
@@ -32,13 +33,23 @@ is_uneven f gate = not (on_gate gate f.p == on_gate gate f.n)
 abbrev pub uneven_gates : Fingers → List NetNo
 uneven_gates f = map (λ g. record { 0 = g }) (filter (is_uneven f) (range_with_len 0 f.nets))
 
+-- no lemma of the certificate is said by an earlier one
+abbrev pub HasNew : Fingers → TrailCertificate → Type 0
+HasNew f trails = AreNew (levels_of f trails.order) (lemmas_listed (levels_of f trails.order) trails.lemmas)
+
+-- its lemmas are on states that are reached while a row of at most that many gaps is looked for
+abbrev pub HasReached : Fingers → TrailCertificate → ℕ → Type 0
+HasReached f trails gaps =
+    AreReached (levels_of f trails.order) gaps (lemmas_listed (levels_of f trails.order) trails.lemmas)
+
 -- A certificate that is accepted but for a row, which it does not list; and what its lemmas prove of every row. They
--- are new, each of them. A text can hold it.
+-- are new, each of them, and on states that are reached. A text can hold it.
 pub record IsProof (f : Fingers) (proof : Proof) : Type 0 where
   pub gates : AreGates f proof.trails
   pub few_ways : first_with_many f proof.trails.order ≡ None
   pub justified : first_unproved f proof.trails ≡ None
-  pub new : AreNew (levels_of f proof.trails.order) (lemmas_listed (levels_of f proof.trails.order) proof.trails.lemmas)
+  pub new : HasNew f proof.trails
+  pub reached : HasReached f proof.trails proof.gaps
   pub rowless : proof.trails.best ≡ None
   pub fill : proof.trails.fill ≡ uneven_gates f
   pub gaps : proof.gaps ≡ least_gaps f proof.trails
@@ -65,35 +76,38 @@ pub record IsUnfinished (f : Fingers) (left left_after : ℕ) (proof : Proof) : 
   pub proved : IsProof f proof
   pub nodes : AreSpent left left_after (length proof.trails.order) proof.trails
 
--- lemmas over an order of the gates
+-- lemmas over an order of the gates, to refute that a row has at most that many gaps
 pub record Attempt : Type 0 where
+  pub limit : ℕ
   pub order : List NetNo
   pub lemmas : List TrailLemma
 
--- each lemma is justified by those before it, and new
+-- each lemma is justified by those before it, new, and on a state that is reached
 pub record IsAttempt (f : Fingers) (a : Attempt) : Type 0 where
   pub order : IsOrder f a.order
   pub justified : unproved (levels_of f a.order) [] 5 a.lemmas ≡ None
   pub new : AreNew (levels_of f a.order) a.lemmas
+  pub reached : AreReached (levels_of f a.order) a.limit a.lemmas
 
 -- a node for each lemma, and at most one for each gate and one at the end
 abbrev pub most_nodes : Attempt → ℕ
 most_nodes a = length a.lemmas + length a.order + 1
 
--- the nodes went for the lemmas of an attempt
-pub record HasAttempted (f : Fingers) (left left_after : ℕ) : Type 0 where
+-- the nodes went for the lemmas of an attempt to refute the limit
+pub record HasAttempted (f : Fingers) (limit left left_after : ℕ) : Type 0 where
   pub attempt : Attempt
   pub is : IsAttempt f attempt
+  pub tried : attempt.limit ≡ limit
   pub many : left ≤ left_after + most_nodes attempt
 
 -- so they went, if any did
-abbrev pub AttemptsOnce : Fingers → ℕ → ℕ → Type 0
-AttemptsOnce f left left_after = (left_after ≡ left) ⊎ HasAttempted f left left_after
+abbrev pub AttemptsOnce : Fingers → ℕ → ℕ → ℕ → Type 0
+AttemptsOnce f limit left left_after = (left_after ≡ left) ⊎ HasAttempted f limit left left_after
 
 -- so it is but where the memory ends
-abbrev pub AttemptsStopped : Fingers → ℕ → ℕ → RefuteStop → Type 0
-AttemptsStopped f left left_after ended.NoMemory = Unit {0}
-AttemptsStopped f left left_after stop = AttemptsOnce f left left_after
+abbrev pub AttemptsStopped : Fingers → ℕ → ℕ → ℕ → RefuteStop → Type 0
+AttemptsStopped f limit left left_after ended.NoMemory = Unit {0}
+AttemptsStopped f limit left left_after stop = AttemptsOnce f limit left left_after
 
 -- no node is left; or the gate has too many ways
 abbrev pub EndsRefuting : Fingers → ℕ → RefuteStop → Type 0

@@ -11,6 +11,7 @@ use Rattle.trail_log.specs.Fits.{LemmaFits}
 use Rattle.trail_check.specs.Listed.{lemmas_listed, nodes_of}
 use Rattle.trail_search.specs.declared.kept.Kept.{Kept}
 use Rattle.trail_search.specs.Line.{AllNodes}
+use Rattle.trail_search.specs.Reached.{IsWithin}
 
 -- few enough nodes to count them
 abbrev pub AreSmall : List Level → Type 0
@@ -66,6 +67,11 @@ pub record IsFurther (levels : List Level) (before after : Kept) : Type 0 where
 pub record AreTied (before after : Kept) (left left_after others : ℕ) : Type 0 where
   pub few : left_after + length after.lemmas ≤ left + length before.lemmas
   pub many : left + length before.lemmas ≤ left_after + length after.lemmas + others
+
+-- where choices lead to the state, they lead to the states of all lemmas that were added
+abbrev pub StayWithin : List Level → ℕ → List Place → ℕ → Kept → Kept → Type 0
+StayWithin levels done s bound before after = (most : ℕ) → IsWithin levels most (lemma_of done s bound)
+    → All (IsWithin levels most) before.lemmas → All (IsWithin levels most) after.lemmas
 
 -- No more is known of states behind fewer gates, nor of more ends than the bound behind as many.
 abbrev pub StayAs : ℕ → ℕ → Kept → Kept → Type 0

@@ -4,8 +4,15 @@ use Rattle.row_state.specs.declared.kind.Kinds.{Kinds}
 use Rattle.row_state.specs.declared.state.State.{State}
 use Rattle.row_state.specs.Completion.{Need}
 use Rattle.row_state.specs.Start.{IsState}
+use Rattle.row_search.specs.Reached.{IsReached}
 use Rattle.trail_search.specs.Proof.{Attempt, IsAttempt, most_nodes}
 use Rattle.trail_search.specs.Behind.{fingers_behind}
+
+-- A prefix of some arrangement has the state. Its gaps and the bound are at most `most`.
+pub record IsStateWithin (k : Kinds) (most : ℕ) (s : State) (bound : ℕ) : Type 0 where
+  pub gaps : ℕ
+  pub reached : IsReached k s gaps
+  pub within : gaps + bound ≤ most
 
 -- so many further gaps of a state
 pub record Bounded : Type 0 where
@@ -24,20 +31,31 @@ pub record Try : Type 0 where
   pub state : State
   pub attempt : Attempt
 
+-- the bound is of such a state
+abbrev pub IsBoundWithin : Kinds → ℕ → Bounded → Type 0
+IsBoundWithin k most b = IsStateWithin k most b.state b.bound
+
 -- its lemmas are of the fingers of the state
 pub record IsTry (k : Kinds) (t : Try) : Type 0 where
   pub valid : IsState k t.state
   pub attempt : IsAttempt (fingers_behind k t.state) t.attempt
 
+-- the attempt is to show that such a state has more further gaps than its limit
+abbrev pub IsTryWithin : Kinds → ℕ → Try → Type 0
+IsTryWithin k most t = IsStateWithin k most t.state (t.attempt.limit + 1)
+
 abbrev pub nodes_of : Try → ℕ
 nodes_of t = most_nodes t.attempt
 
--- The nodes went for bounds, no two of them alike, and so many others; and for one attempt each at most.
+-- The nodes went for bounds of states that rows reach, no two of them alike, and that many others; and for one attempt
+-- each at most.
 pub record AreSearched (k : Kinds) (most nodes others : ℕ) : Type 0 where
   pub bounds : List Bounded
   pub tries : List Try
   pub different : AllPairs (λ (a b : Bounded). a ≢ b) bounds
   pub each : All (IsBounded k most) bounds
   pub tried : All (IsTry k) tries
+  pub within : All (IsBoundWithin k most) bounds
+  pub tried_within : All (IsTryWithin k most) tries
   pub few : length tries ≤ length bounds + others
   pub many : nodes ≤ length bounds + sum_by nodes_of tries + others

@@ -9,9 +9,9 @@ use Rattle.lemma_check.specs.declared.known.Known.{Known}
 use Rattle.lemma_check.specs.Known.{best_known}
 use Rattle.row_search.specs.Steps.{IsStep, row_of}
 use Rattle.row_search.specs.Visit.{IsFirstWithin}
-use Rattle.trail_search.specs.Searched.{Bounded, IsBounded, IsTry, Try, nodes_of}
-use Rattle.trail_search.specs.declared.descent.Halt.{Halt}
-use Rattle.trail_search.specs.declared.descent.Halt.TheVariants as halted
+use Rattle.trail_search.specs.Searched.{Bounded, IsBounded, IsStateWithin, IsBoundWithin, IsTryWithin, IsTry, Try, nodes_of}
+use Rattle.trail_search.specs.declared.halt.Halt.{Halt}
+use Rattle.trail_search.specs.declared.halt.Halt.TheVariants as halted
 
 -- every completion of a valid state has as many further gaps as is known of the state
 abbrev pub AreTrue : Kinds → Known → Type 0
@@ -27,10 +27,19 @@ abbrev pub Halts : ℕ → Halt → Type 0
 Halts left halted.Spent = left ≡ 0
 Halts left halted.NoMemory = Unit {0}
 
+-- where a row reaches this state within a limit, rows reach the states of the attempts within it
+abbrev pub TriesWithin : Kinds → State → ℕ → List Try → Type 0
+TriesWithin k s bound tries = (most : ℕ) → IsStateWithin k most s bound → All (IsTryWithin k most) tries
+
+-- and those of the bounds
+abbrev pub BoundsWithin : Kinds → State → ℕ → List Bounded → Type 0
+BoundsWithin k s bound bounds = (most : ℕ) → IsStateWithin k most s bound → All (IsBoundWithin k most) bounds
+
 -- one attempt at most took the nodes
-pub record TriesOnce (k : Kinds) (left left_after : ℕ) : Type 0 where
+pub record TriesOnce (k : Kinds) (s : State) (bound left left_after : ℕ) : Type 0 where
   pub tries : List Try
   pub tried : All (IsTry k) tries
+  pub tried_within : TriesWithin k s bound tries
   pub few : length tries ≤ 1
   pub many : left ≤ left_after + sum_by nodes_of tries
 
@@ -42,13 +51,16 @@ pub record IsRaised (k : Kinds) (n most : ℕ) (before after : Known) (b : Bound
   pub below : columns_left k b.state < n
 
 -- The nodes went for bounds that came to be known, for so many others, and for one attempt each at most.
-pub record IsSpent (k : Kinds) (n most : ℕ) (before after : Known) (left left_after others : ℕ) : Type 0 where
+pub record IsSpent
+    (k : Kinds) (n : ℕ) (s : State) (most : ℕ) (before after : Known) (left left_after others : ℕ) : Type 0 where
   pub grown : (s : State) → IsState k s → best_known before k s ≤ best_known after k s
   pub bounds : List Bounded
   pub tries : List Try
   pub different : AllPairs (λ (a b : Bounded). a ≢ b) bounds
   pub each : All (IsRaised k n most before after) bounds
   pub tried : All (IsTry k) tries
+  pub within : BoundsWithin k s most bounds
+  pub tried_within : TriesWithin k s most tries
   pub few : length tries ≤ length bounds + others
   pub many : left ≤ left_after + length bounds + sum_by nodes_of tries + others
 

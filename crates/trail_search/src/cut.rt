@@ -4,7 +4,7 @@ ghost use Rattle.row_state.specs.Start.{IsState};
 ghost use Rattle.trail_search.specs.Visit.{Halts, IfSpent, TriesOnce};
 
 use crate::behind::behind;
-use crate::descent::Halt;
+use crate::halt::Halt;
 use crate::proof::RefuteStop;
 use crate::refute::is_refuted;
 use cell_num::{NoMemory, Row, are_fingers};
@@ -39,8 +39,9 @@ fn trails_refute(
     ensures refuted { IfOk result (λ yes. IsTrue yes → Need kinds.now state.now (allowed + 1)) }
     ensures left { left.new ≤ left.old }
     ensures halted { IfErr result (Halts left.new) }
-    ensures tries { IfOk result (λ _. TriesOnce kinds.now left.old left.new) }
-    ensures spent_tries { IfErr result (λ why. IfSpent why (TriesOnce kinds.now left.old left.new)) }
+    ensures tries { IfOk result (λ _. TriesOnce kinds.now state.now (allowed + 1) left.old left.new) }
+    ensures spent_tries { IfErr result (λ why. IfSpent why
+        (TriesOnce kinds.now state.now (allowed + 1) left.old left.new)) }
 {
     kinds.show_limits();
     if !is_open(state) {
@@ -71,8 +72,9 @@ pub(crate) fn exceeds_allowed(
     ensures exceeds { IfOk result (λ yes. IsTrue yes → Need kinds.now state.now (allowed + 1)) }
     ensures left { left.new ≤ left.old }
     ensures halted { IfErr result (Halts left.new) }
-    ensures tries { IfOk result (λ _. TriesOnce kinds.now left.old left.new) }
-    ensures spent_tries { IfErr result (λ why. IfSpent why (TriesOnce kinds.now left.old left.new)) }
+    ensures tries { IfOk result (λ _. TriesOnce kinds.now state.now (allowed + 1) left.old left.new) }
+    ensures spent_tries { IfErr result (λ why. IfSpent why
+        (TriesOnce kinds.now state.now (allowed + 1) left.old left.new)) }
 {
     if is_above(Row::P, state, kinds, allowed) || is_above(Row::N, state, kinds, allowed) {
         return Ok(true);

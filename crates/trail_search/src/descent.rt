@@ -6,7 +6,8 @@ ghost use Rattle.lemma_check.specs.Known.{best_known};
 ghost use Rattle.trail_search.specs.Visit.{AreTrue, Halts, IfSpent, IsFirstOf, IsSpent};
 
 use crate::cut::exceeds_allowed;
-use cell_num::{MOST_COLUMNS, NoMemory};
+use crate::halt::Halt;
+use cell_num::MOST_COLUMNS;
 use lemma_check::Known;
 use row_state::{Candidate, Kinds, Numbered, Steps, has_fingers};
 use std::alloc::Global;
@@ -18,25 +19,6 @@ pub(crate) struct Task<'a> {
     pub kinds: &'a Kinds,
     /// All columns that may come next in some state.
     pub candidates: &'a [Candidate],
-}
-
-/// Why a visit ends without an answer.
-#[derive(Debug, Drop)]
-pub(crate) enum Halt {
-    /// No node is left.
-    Spent,
-    NoMemory,
-}
-
-impl From<NoMemory> for Halt {
-    ghost use Rattle.std.specs.Prelude.{◌≡◌};
-    ghost use Rattle.trail_search.specs.declared.descent.Halt.TheVariants.{NoMemory};
-
-    ghost from_gives = { λ _ e. e ≡ NoMemory };
-
-    fn from(_: NoMemory) -> Halt {
-        Halt::NoMemory
-    }
 }
 
 /// The first completion of the state with as few gaps as are allowed, its last step first, or none. What is known of
@@ -59,10 +41,11 @@ pub(crate) fn visit(
     ensures found { IfOk result (λ r. IfSome r (IsFirstOf task.now.kinds.now at.now.state allowed)) }
     ensures halted { IfErr result (Halts left.new) }
     ensures bounds { IfOk result (λ r. IfNone r (IsSpent task.now.kinds.now
-        (columns_left task.now.kinds.now at.now.state + 1) (allowed + 1) known.old known.new left.old left.new 0)) }
+        (columns_left task.now.kinds.now at.now.state + 1) at.now.state (allowed + 1) known.old known.new left.old
+        left.new 0)) }
     ensures spent { IfErr result (λ why. IfSpent why (IsSpent task.now.kinds.now
-        (columns_left task.now.kinds.now at.now.state + 1) (allowed + 1) known.old known.new left.old left.new
-        (columns_left task.now.kinds.now at.now.state))) }
+        (columns_left task.now.kinds.now at.now.state + 1) at.now.state (allowed + 1) known.old known.new left.old
+        left.new (columns_left task.now.kinds.now at.now.state))) }
 {
     task.kinds.show_limits();
     if *left == 0 {

@@ -6,7 +6,8 @@ ghost use Rattle.trail_search.specs.First.{IsFirstRow, listed_of};
 ghost use Rattle.trail_search.specs.Searched.{AreSearched};
 ghost use Rattle.trail_search.specs.Visit.{Halts, IfSpent};
 
-use crate::descent::{Halt, Task, visit};
+use crate::descent::{Task, visit};
+use crate::halt::Halt;
 use bound_log::Best;
 use cell_num::{MOST_COLUMNS, NoMemory};
 use lemma_check::Known;
@@ -53,6 +54,7 @@ fn row_from(
     ensures spent { IfErr result (λ why. IfSpent why (AreSearched kinds.now (gaps + 1) (left.old - left.new)
         (columns_left kinds.now (start_of kinds.now)))) }
 {
+    kinds.show_limits();
     let candidates = candidates(alloc, kinds)?;
     let task = Task {
         alloc,

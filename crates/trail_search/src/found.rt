@@ -8,8 +8,6 @@ pub struct TrailFound {
     pub row: Arrangement,
     /// The certificate that lists the row, and proves that no arrangement has fewer gaps.
     pub trails: TrailCertificate,
-    /// How many nodes of the budget the search took.
-    pub nodes: u64,
 }
 
 /// Why a search ended without a row.
@@ -20,8 +18,6 @@ pub enum TrailStop {
     Unfinished {
         trails: TrailCertificate,
         proved: u32,
-        /// How many nodes of the budget the search took.
-        nodes: u64,
     },
     /// There are too many ways to pair the fingers of the gate.
     Choices {

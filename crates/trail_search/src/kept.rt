@@ -2,7 +2,7 @@ ghost use Rattle.std.specs.Prelude.{◌≡◌, ◌≤◌, ◌<◌, ◌+◌, [], 
 ghost use Rattle.trail_check.specs.Indexed.{IsIndexOf};
 ghost use Rattle.trail_check.specs.Justified.{ends_proved, gaps_proved, is_justified, is_known};
 ghost use Rattle.trail_check.specs.Listed.{nodes_of};
-ghost use Rattle.trail_search.specs.Search.{AreChained, AreKept, IsFurther, IsStateOf, StayAs, lemma_of};
+ghost use Rattle.trail_search.specs.Search.{AreChained, AreKept, IsFurther, IsStateOf, StayAs, StayWithin, lemma_of};
 
 use crate::line::line_of;
 use cell_num::{List, NoMemory};
@@ -61,6 +61,7 @@ impl Kept {
         ensures known { OnOk result (is_known self.new.lemmas done state.now bound ≡ true) }
         ensures others { OnOk result (StayAs done bound self.old self.new) }
         ensures one { OnOk result (length self.new.lemmas ≡ length self.old.lemmas + 1) }
+        ensures within { OnOk result (StayWithin levels.now done state.now bound self.old self.new) }
     {
         let line = line_of(alloc, done, state.as_slice(), bound)?;
         let lemma = lemma_listed(alloc, levels.as_slice(), &line)?;

@@ -8,6 +8,7 @@ mod descent;
 mod first;
 mod found;
 mod gates;
+mod halt;
 mod kept;
 mod limits;
 mod line;

@@ -3,13 +3,15 @@ ghost use Rattle.cell_num.specs.Fingers.{AreFingers};
 ghost use Rattle.trail_state.specs.Levels.{Ends};
 ghost use Rattle.trail_check.specs.Justified.{ends_proved, gaps_proved};
 ghost use Rattle.trail_search.specs.Proof.{AreSpent, IsMost, IsProof, StopsProving};
+ghost use Rattle.trail_search.specs.Reached.{AreReached};
 ghost use Rattle.trail_search.specs.Search.{AreChained, AreKept, AreSmall, AreTied, IsFurther};
 
 use crate::gates::fill;
+use crate::halt::Halt;
 use crate::kept::Kept;
 use crate::order::order;
 use crate::proof::{Proof, ProveStop};
-use crate::visit::{Halt, visit};
+use crate::visit::visit;
 use cell_num::{Fingers, List, NoMemory};
 use std::alloc::Global;
 use trail_check::{first_with_many, levels_of};
@@ -48,6 +50,8 @@ fn refute_limits(
     ensures spent { IfOk result (λ whole. whole ≡ false → left.new ≡ 0) }
     ensures spent_path { IfOk result (λ whole. whole ≡ false →
         AreTied kept.old kept.new left.old left.new (length levels.now)) }
+    ensures reached { IfOk result (λ _.
+        AreReached levels.now (gaps_proved (ends_proved kept.new.lemmas)) kept.new.lemmas) }
 {
     let start = TrailState::new(alloc);
     for limit in 0..MOST_LIMIT + 1 {

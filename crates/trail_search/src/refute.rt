@@ -5,11 +5,12 @@ ghost use Rattle.row_model.specs.Arrangement.{IsArrangement};
 ghost use Rattle.row_model.specs.Gaps.{gaps_of};
 ghost use Rattle.trail_search.specs.Proof.{AttemptsOnce, AttemptsStopped, EndsRefuting, HasMost};
 
+use crate::halt::Halt;
 use crate::kept::Kept;
 use crate::limits::{MOST_LIMIT, most_ends};
 use crate::order::order;
 use crate::proof::RefuteStop;
-use crate::visit::{Halt, visit};
+use crate::visit::visit;
 use cell_num::Fingers;
 use std::alloc::Global;
 use trail_check::{first_with_many, levels_of};
@@ -31,8 +32,8 @@ pub(crate) fn is_refuted(
     ensures most { IfOk result (λ yes. yes ≡ false → limit ≤ 30 → HasMost fingers.now limit) }
     ensures left { left.new ≤ left.old }
     ensures halted { IfErr result (EndsRefuting fingers.now left.new) }
-    ensures attempt { IfOk result (λ _. AttemptsOnce fingers.now left.old left.new) }
-    ensures attempt_stopped { IfErr result (AttemptsStopped fingers.now left.old left.new) }
+    ensures attempt { IfOk result (λ _. AttemptsOnce fingers.now limit left.old left.new) }
+    ensures attempt_stopped { IfErr result (AttemptsStopped fingers.now limit left.old left.new) }
 {
     if limit > MOST_LIMIT {
         return Ok(false);

@@ -4,8 +4,8 @@ ghost use Rattle.trail_search.specs.declared.found.TrailStop.TheVariants as stop
 ghost use Rattle.trail_search.specs.Ended.{IsFound, Stops};
 ghost use Rattle.trail_search.specs.First.{with_best};
 
-use crate::descent::Halt;
 use crate::first::first_row;
+use crate::halt::Halt;
 use crate::limits::prove;
 use crate::proof::{Proof, ProveStop};
 use crate::{TrailFound, TrailStop};
@@ -26,13 +26,12 @@ fn with_row(trails: TrailCertificate, best: Best) -> TrailCertificate
     }
 }
 
-fn unfinished(proof: Proof, nodes: u64) -> TrailStop
-    ensures { result ≡ stopped.Unfinished proof.trails proof.gaps nodes }
+fn unfinished(proof: Proof) -> TrailStop
+    ensures { result ≡ stopped.Unfinished proof.trails proof.gaps }
 {
     TrailStop::Unfinished {
         trails: proof.trails,
         proved: proof.gaps,
-        nodes,
     }
 }
 
@@ -48,7 +47,7 @@ pub fn search_trails(alloc: Global, fingers: &Fingers, budget: u64) -> Result<Tr
     let mut left = budget;
     let proof = match prove(alloc, fingers, &mut left) {
         Ok(proof) => proof,
-        Err(ProveStop::Unfinished(proof)) => return Err(unfinished(proof, budget - left)),
+        Err(ProveStop::Unfinished(proof)) => return Err(unfinished(proof)),
         Err(ProveStop::Choices { gate }) => return Err(TrailStop::Choices { gate }),
         Err(ProveStop::NoMemory) => return Err(TrailStop::NoMemory),
     };
@@ -56,10 +55,9 @@ pub fn search_trails(alloc: Global, fingers: &Fingers, budget: u64) -> Result<Tr
         Ok(Some(first)) => Ok(TrailFound {
             row: first.row,
             trails: with_row(proof.trails, first.best),
-            nodes: budget - left,
         }),
-        Ok(None) => Err(unfinished(proof, budget - left)),
-        Err(Halt::Spent) => Err(unfinished(proof, budget - left)),
+        Ok(None) => Err(unfinished(proof)),
+        Err(Halt::Spent) => Err(unfinished(proof)),
         Err(Halt::NoMemory) => Err(TrailStop::NoMemory),
     }
 }

@@ -2,35 +2,19 @@ ghost use Rattle.std.specs.Prelude.{◌≡◌, ◌≤◌, ◌+◌, ◌-◌, true
 ghost use Rattle.trail_state.specs.Levels.{Ends};
 ghost use Rattle.trail_check.specs.Justified.{is_known};
 ghost use Rattle.trail_check.specs.Listed.{nodes_of};
-ghost use Rattle.trail_search.specs.declared.visit.Halt.TheVariants as halt;
+ghost use Rattle.trail_search.specs.declared.halt.Halt.TheVariants as halt;
 ghost use Rattle.trail_search.specs.Search.{AreChained, AreKept, AreSmall, AreTied, IsFurther, IsStateOf, StayAs};
+ghost use Rattle.trail_search.specs.Search.{StayWithin};
 
+use crate::halt::Halt;
 use crate::kept::Kept;
-use cell_num::{List, NoMemory};
+use cell_num::List;
 use std::alloc::Global;
 use trail_state::{Level, TrailState, after};
 
-/// Why a visit ends without an answer.
-#[derive(Debug, Drop)]
-pub(crate) enum Halt {
-    Spent,
-    NoMemory,
-}
-
-impl From<NoMemory> for Halt {
-    ghost use Rattle.std.specs.Prelude.{◌≡◌};
-    ghost use Rattle.trail_search.specs.declared.visit.Halt.TheVariants.{NoMemory};
-
-    ghost from_gives = { λ _ e. e ≡ NoMemory };
-
-    fn from(_: NoMemory) -> Halt {
-        Halt::NoMemory
-    }
-}
-
 /// Whether some choices of the gates left have at most `allowed` more ends; else a kept lemma says that none do.
 /// A visit takes one node of those left. It leaves a lemma, unless such choices are found or no node is left.
-#[tactic(auto, using(crate::proofs::Grown::further_same, crate::proofs::Grown::further_then))]
+#[tactic(auto, using(crate::proofs::Grown::further_same, crate::proofs::Grown::further_then, crate::proofs::Reached::within_same))]
 pub(crate) fn visit(
     alloc: Global,
     levels: &List<Level>,
@@ -57,6 +41,9 @@ pub(crate) fn visit(
     ensures path { IfOk result (λ _. AreTied kept.old kept.new left.old left.new (length levels.now - done + 1)) }
     ensures spent { IfErr result (λ why. why ≡ halt.Spent → left.new ≡ 0) }
     ensures spent_kept { IfErr result (λ why. why ≡ halt.Spent → IsFurther levels.now kept.old kept.new) }
+    ensures within { IfOk result (λ _. StayWithin levels.now done state.now (allowed + 1) kept.old kept.new) }
+    ensures spent_within { IfErr result (λ why. why ≡ halt.Spent →
+        StayWithin levels.now done state.now (allowed + 1) kept.old kept.new) }
     ensures spent_path { IfErr result (λ why. why ≡ halt.Spent →
         AreTied kept.old kept.new left.old left.new (length levels.now - done)) }
 {

@@ -64,19 +64,19 @@ some_net : (fs : List Finger) → (v : ℕ) × (is_net_in fs v ≡ true)
 some_net [] = (0, refl)
 some_net (x ∷ xs) = (x.lo.0, in_net (x ∷ xs) x.lo.0 x (contains_here x xs) (or_left (x.lo.0 == x.lo.0) (x.hi.0 == x.lo.0) (eq-eqb x.lo.0 x.lo.0 refl)))
 
-zip_columns : (f : Fingers) (row : List Column) (es : List Edge) → AreEdgesOf f row es → map column_at (zip row es) ≡ row
+pub zip_columns : (f : Fingers) (row : List Column) (es : List Edge) → AreEdgesOf f row es → map column_at (zip row es) ≡ row
 zip_columns f [] [] h = refl
 zip_columns f [] (e ∷ es) h = absurd h
 zip_columns f (c ∷ cs) [] h = absurd h
 zip_columns f (c ∷ cs) (e ∷ es) h = ap (λ l. c ∷ l) (zip_columns f cs es h.1)
 
-zip_edges : (f : Fingers) (row : List Column) (es : List Edge) → AreEdgesOf f row es → map edge_at (zip row es) ≡ es
+pub zip_edges : (f : Fingers) (row : List Column) (es : List Edge) → AreEdgesOf f row es → map edge_at (zip row es) ≡ es
 zip_edges f [] [] h = refl
 zip_edges f [] (e ∷ es) h = absurd h
 zip_edges f (c ∷ cs) [] h = absurd h
 zip_edges f (c ∷ cs) (e ∷ es) h = ap (λ l. e ∷ l) (zip_edges f cs es h.1)
 
-zip_drawn : (f : Fingers) (row : List Column) (es : List Edge) → AreEdgesOf f row es → All (IsDrawn f) (zip row es)
+pub zip_drawn : (f : Fingers) (row : List Column) (es : List Edge) → AreEdgesOf f row es → All (IsDrawn f) (zip row es)
 zip_drawn f [] [] h = All-nil (IsDrawn f)
 zip_drawn f [] (e ∷ es) h = absurd h
 zip_drawn f (c ∷ cs) [] h = absurd h

@@ -1,6 +1,7 @@
 pub mod Along
 pub mod Begun
 pub mod Blocks
+pub mod Built
 pub mod Chosen
 pub mod Counted
 pub mod Ends

@@ -1,11 +1,12 @@
 -- A front has the parts with each further column, and without one of some fingers are the others.
-use Rattle.std.proofs.Common.{ℕ, ◌≡◌, ◌<◌, ◌==◌, ◌&&◌, Bool, true, cond, if◌then◌else◌, List, [], ◌∷◌, ◌++◌, length, fold, get_or, refl, sym, ap, subst, arith, ◌∙◌, inl, inr, Contains, IsPermutation}
+use Rattle.std.proofs.Common.{ℕ, ◌≡◌, ◌<◌, true, cond, if◌then◌else◌, List, [], ◌∷◌, ◌++◌, length, fold, get_or, refl, sym, ap, subst, arith, ◌∙◌, inl, inr, ◌⊎◌, Contains, IsPermutation}
 use Rattle.std.specs.List.{after_first, before_first, list_any, position_or_len}
 use Rattle.std.proofs.lemmas.Bool.{both_ways, cases_Bool, cases_lt}
 use Rattle.std.proofs.lemmas.List.Elements.{Contains-append_left, Contains-append_right}
 use Rattle.std.proofs.lemmas.List.Sorted.{IsPermutation-middle, length_permutation, sum_by-IsPermutation}
 use Rattle.std.proofs.lemmas.List.Sums.{fails_before_first, passes_at_first, split_at_first}
-use Rattle.cell_num.proofs.Lists.{contains_cons, contains_here, contains_none}
+use Rattle.cell_num.proofs.In.{contains_in, in_append, in_contains}
+use Rattle.cell_num.proofs.Lists.{contains_cons, contains_here, contains_none, contains_one, contains_there}
 use Rattle.cell_num.proofs.Pairs.{Some', test_finds}
 use Rattle.cell_num.proofs.Permutations.{count_cons, permutation_from_counts}
 use Rattle.trail_state.specs.declared.edge.NetPair.{NetPair}
@@ -56,6 +57,55 @@ each_behind gate xs (q ∷ front) parts part p there more = elim (contains_cons 
 -- a part of a front with a column more is in the next front
 pub front_has : (gate : Gate) (xs : List NetPair) (front : List Part) (part p : Part) → Contains front part → Contains (next_parts gate xs part) p → Contains (next_front gate xs front) p
 front_has gate xs front part p there more = each_behind gate xs front [] part p there more
+
+-- what one of two lists has
+pub append_from : {X : Type 0} (xs ys : List X) (z : X) → Contains (xs ++ ys) z → Contains xs z ⊎ Contains ys z
+append_from xs ys z there = elim (in_append xs ys z (contains_in (xs ++ ys) z there)) [
+  | inl first ↦ inl (in_contains xs z first)
+  | inr second ↦ inr (in_contains ys z second)
+]
+
+new_from : (parts : List Part) (q p : Part) → Contains (with_new parts q) p → Contains parts p ⊎ (q ≡ p)
+new_from parts q p there = elim (cases_Bool (list_any (is_same q) parts)) [
+  | inl known ↦ inl (subst (λ l. Contains l p) (ap (λ b. if b then parts else parts ++ q ∷ []) known) there)
+  | inr fresh ↦ elim (append_from parts (q ∷ []) p (subst (λ l. Contains l p) (ap (λ b. if b then parts else parts ++ q ∷ []) fresh) there)) [
+    | inl old ↦ inl old
+    | inr one ↦ inr (contains_one q p one)
+  ]
+]
+
+all_from : (more parts : List Part) (p : Part) → Contains (with_all parts more) p → Contains parts p ⊎ Contains more p
+all_from [] parts p there = inl there
+all_from (q ∷ more) parts p there = elim (all_from more (with_new parts q) p there) [
+  | inl old ↦ elim (new_from parts q p old) [
+    | inl before ↦ inl before
+    | inr same ↦ inr (subst (Contains (q ∷ more)) same (contains_here q more))
+  ]
+  | inr later ↦ inr (contains_there q more p later)
+]
+
+-- a part of the front that this one is with a column more
+pub record Before (gate : Gate) (xs : List NetPair) (front : List Part) (p : Part) : Type 0 where
+  pub part : Part
+  pub there : Contains front part
+  pub next : Contains (next_parts gate xs part) p
+
+each_from : (gate : Gate) (xs : List NetPair) (front parts : List Part) (p : Part) → Contains (behind gate xs parts front) p → Contains parts p ⊎ Before gate xs front p
+each_from gate xs [] parts p there = inl there
+each_from gate xs (q ∷ front) parts p there = elim (each_from gate xs front (with_all parts (next_parts gate xs q)) p there) [
+  | inl old ↦ elim (all_from (next_parts gate xs q) parts p old) [
+    | inl before ↦ inl before
+    | inr next ↦ inr (record { part = q; there = contains_here q front; next = next })
+  ]
+  | inr b ↦ inr (record { part = b.part; there = contains_there q front b.part b.there; next = b.next })
+]
+
+-- a part of the next front is one of this front with a column more
+pub front_from : (gate : Gate) (xs : List NetPair) (front : List Part) (p : Part) → Contains (next_front gate xs front) p → Before gate xs front p
+front_from gate xs front p there = elim (each_from gate xs front [] p there) [
+  | inl none ↦ absurd (contains_none p none)
+  | inr b ↦ b
+]
 
 -- ---- fingers left without one
 

@@ -96,7 +96,7 @@ edge_moved before behind z zs edges is =
     (IsPermutation-append_left edges (map edge_at zs) (z.1 ∷ rest) first)
     (IsPermutation-trans (z.1 ∷ (rest ++ edges)) (rest ++ z.1 ∷ edges) (rest ++ inserted z.1 edges) moved (IsPermutation-append_right rest (z.1 ∷ edges) (inserted z.1 edges) (inserted_permutes z.1 edges)))
 
-drop_more : (at : ℕ) (xs : List NetPair) → drop 1 (drop at xs) ≡ drop (suc at) xs
+pub drop_more : {X : Type 0} (at : ℕ) (xs : List X) → drop 1 (drop at xs) ≡ drop (suc at) xs
 drop_more zero xs = refl
 drop_more (suc at) [] = refl
 drop_more (suc at) (x ∷ xs) = drop_more at xs

@@ -1,5 +1,5 @@
 -- The columns of a row on one gate are one of the gate's choices.
-use Rattle.std.proofs.Common.{ℕ, ◌≡◌, ◌<◌, true, List, [], length, map, append-nil, sym, ap, subst, arith, ◌∙◌, All, Contains, IsPermutation}
+use Rattle.std.proofs.Common.{ℕ, ◌≡◌, ◌<◌, List, [], length, map, append-nil, sym, ap, subst, arith, ◌∙◌, All, Contains, IsPermutation}
 use Rattle.std.specs.List.{range_with_len}
 use Rattle.std.proofs.lemmas.List.{length-map}
 use Rattle.std.proofs.lemmas.List.Elements.{All-filter}
@@ -40,28 +40,31 @@ pub record Pick (f : Fingers) (zs : List Drawn) (g : NetNo) : Type 0 where
   pub it : List Edge
   pub picked : Picked f zs g it
 
+-- columns that arrange the gate's fingers are listed
+pub gate_listed : (f : Fingers) (g : ℕ) → AreFingers f → g < f.nets → (zs : List Drawn) → IsArrangement (map column_at zs) (fingers_on g f) → All (IsDrawn f) zs → Listed (choices_of f g) zs []
+gate_listed f g ok within zs arranges drawn =
+    let gate : Gate = gate_of f g in
+    let first : Part = record { edges = []; left = gate.n } in
+    let few : length zs ≡ columns_in gate =
+    omega (arith, length-map zs column_at, arranges.fewest, columns_of_gate f g within, length-filter (is_on g) f.p, length-filter (is_on g) f.n, length-map (fingers_on g f).p nets_at, length-map (fingers_on g f).n nets_at) in
+    let arranged : Arranged f gate.p gate.n zs = record {
+      drawn = drawn;
+      p = IsPermutation-map nets_at (fingers_on g f).p (fingers_in P (map column_at zs)) arranges.p;
+      n = IsPermutation-map nets_at (fingers_on g f).n (fingers_in N (map column_at zs)) arranges.n;
+      fewest = few;
+    } in
+    choices_are f g zs
+    (parts_listed f gate
+    (λ v e. passes_to (is_net_in f.p) (range_with_len 0 f.nets) v (range_has f.nets v (net_below P f.nets f.p v ok.p (omega (arith, within)) e)) e)
+    (λ v e. passes_to (is_net_in f.n) (range_with_len 0 f.nets) v (range_has f.nets v (net_below N f.nets f.n v ok.n (omega (arith, within)) e)) e)
+    (columns_in gate) 0 (columns_in gate) first zs few (omega arith) (contains_here first []) arranged)
+
 pub pick : (f : Fingers) (row : List Column) (zs : List Drawn) (g : NetNo) → AreFingers f → IsArrangement row f → All (λ (c : Column). gate_at c < f.nets) row → map column_at zs ≡ row → All (IsDrawn f) zs → g.0 < f.nets → Pick f zs g
 pick f row zs g ok arranges nets is drawn within =
     let mine : IsArrangement (columns_on g.0 row) (fingers_on g.0 f) = gate_arranges f row arranges nets g.0 within in
     let columns : map column_at (part g.0 zs) ≡ columns_on g.0 row = firsts g.0 zs ∙ ap (columns_on g.0) is in
-    let many : length (part g.0 zs) ≡ length (columns_on g.0 row) = sym (length-map (part g.0 zs) column_at) ∙ ap length columns in
     let here : All (IsDrawn f) (part g.0 zs) = All-filter (is_part g.0) (IsDrawn f) zs drawn in
-    let gate : Gate = gate_of f g.0 in
-    let first : Part = record { edges = []; left = gate.n } in
-    let few : length (part g.0 zs) ≡ columns_in gate =
-    omega (arith, many, mine.fewest, columns_of_gate f g.0 within, length-filter (is_on g.0) f.p, length-filter (is_on g.0) f.n, length-map (fingers_on g.0 f).p nets_at, length-map (fingers_on g.0 f).n nets_at) in
-    let arranged : Arranged f gate.p gate.n (part g.0 zs) = record {
-      drawn = here;
-      p = IsPermutation-map nets_at (fingers_on g.0 f).p (fingers_in P (map column_at (part g.0 zs))) (subst (λ l. IsPermutation (fingers_on g.0 f).p (fingers_in P l)) (sym columns) mine.p);
-      n = IsPermutation-map nets_at (fingers_on g.0 f).n (fingers_in N (map column_at (part g.0 zs))) (subst (λ l. IsPermutation (fingers_on g.0 f).n (fingers_in N l)) (sym columns) mine.n);
-      fewest = few;
-    } in
-    let l : Listed (choices_of f g.0) (part g.0 zs) [] =
-    choices_are f g.0 (part g.0 zs)
-    (parts_listed f gate
-    (λ v e. passes_to (is_net_in f.p) (range_with_len 0 f.nets) v (range_has f.nets v (net_below P f.nets f.p v ok.p (omega (arith, within)) e)) e)
-    (λ v e. passes_to (is_net_in f.n) (range_with_len 0 f.nets) v (range_has f.nets v (net_below N f.nets f.n v ok.n (omega (arith, within)) e)) e)
-    (columns_in gate) 0 (columns_in gate) first (part g.0 zs) few (omega arith) (contains_here first []) arranged) in
+    let l : Listed (choices_of f g.0) (part g.0 zs) [] = gate_listed f g.0 ok within (part g.0 zs) (subst (λ cs. IsArrangement cs (fingers_on g.0 f)) (sym columns) mine) here in
     let same : IsPermutation (map edge_at (part g.0 zs)) l.choice = subst (λ es. IsPermutation es l.choice) (append-nil (map edge_at (part g.0 zs))) l.same in
     record {
       it = l.choice;

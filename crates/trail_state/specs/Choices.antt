@@ -1,5 +1,5 @@
--- The choices of a gate: which of its fingers stand with which, turned alike or not.
-use Rattle.std.specs.Prelude.{ℕ, ◌≡◌, ◌==◌, Bool, List, Option, Some, None, true, IsPermutation}
+-- The choices of a gate: which of its P fingers is above which N finger, turned alike or not.
+use Rattle.std.specs.Prelude.{ℕ, ◌≡◌, ◌==◌, Bool, List, Option, Some, None, true, Contains, IsPermutation}
 use Rattle.std.specs.List.{AllZip, filter}
 use Rattle.cell_num.specs.declared.finger.Finger.{Finger}
 use Rattle.cell_num.specs.declared.finger.Fingers.{Fingers}
@@ -42,3 +42,9 @@ pub record IsChoice (f : Fingers) (gate : ℕ) (choice : List Edge) : Type 0 whe
   pub edges : List Edge
   pub filled : AreEdgesOf f columns edges
   pub listed : IsPermutation edges choice
+
+-- one of the lists has these edges, in some order
+pub record HasChoice (lists : List (List Edge)) (choice : List Edge) : Type 0 where
+  pub it : List Edge
+  pub there : Contains lists it
+  pub same : IsPermutation choice it

@@ -21,10 +21,10 @@ edge_of p_left n_left p_right n_right = edge_between (pair_node p_left n_left) (
 abbrev pub pair_edges : NetPair → NetPair → List Edge
 pair_edges x y = edge_of x.lo y.lo x.hi y.hi ∷ edge_of x.lo y.hi x.hi y.lo ∷ []
 
--- a P finger that stands alone, its empty place filled with each two of the nets
+-- a P finger that is alone, its empty place filled with each two of the nets
 abbrev pub p_edges : List ℕ → NetPair → List Edge
 p_edges nets x = flat_map (λ l. map (λ r. edge_of x.lo l x.hi r) nets) nets
 
--- an N finger that stands alone
+-- an N finger that is alone
 abbrev pub n_edges : List ℕ → NetPair → List Edge
 n_edges nets y = flat_map (λ l. map (λ r. edge_of l y.lo r y.hi) nets) nets

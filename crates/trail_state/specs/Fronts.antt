@@ -32,17 +32,17 @@ paired_with x part y = with_column part (without y part.left) (pair_edges x y)
 abbrev pub paired : NetPair → Part → List Part
 paired x part = flat_map (paired_with x part) part.left
 
--- or alone, where the P fingers behind it are as many as the N fingers left
+-- or alone, where the P fingers after it are as many as the N fingers left
 abbrev pub alone : Gate → NetPair → List NetPair → Part → List Part
 alone gate x xs part =
     if leb (length part.left) (length xs) then with_column part part.left (p_edges gate.n_fill x) else []
 
--- behind the P fingers the first of the N fingers left alone
+-- after the P fingers the first of the N fingers left alone
 abbrev pub n_alone : Gate → Part → List NetPair → List Part
 n_alone gate part [] = []
 n_alone gate part (y ∷ ys) = with_column part ys (n_edges gate.p_fill y)
 
--- the part with its next column in each way, where these P fingers stand in none yet
+-- the part with its next column in each way, where these P fingers are in none yet
 abbrev pub next_parts : Gate → List NetPair → Part → List Part
 next_parts gate [] part = n_alone gate part part.left
 next_parts gate (x ∷ xs) part = paired x part ++ alone gate x xs part
@@ -64,7 +64,7 @@ next_front gate xs front = fold (λ parts part. with_all parts (next_parts gate 
 abbrev pub first_front : Gate → List Part
 first_front gate = record { edges = []; left = gate.n } ∷ []
 
--- the front behind so many columns of the gate: the different parts of its choices that these are
+-- the front after that many columns of the gate: the different parts of its choices that these are
 abbrev pub front_at : Gate → ℕ → List Part
 front_at gate zero = first_front gate
 front_at gate (suc at) = next_front gate (drop at gate.p) (front_at gate at)
@@ -79,7 +79,7 @@ edges_of parts = map (λ (p : Part). p.edges) parts
 unfoldable pub choices_of : Gate → List (List Edge)
 choices_of gate = edges_of (front_at gate (columns_in gate))
 
--- the front behind one of the columns has more parts than that
+-- the front after one of the columns has more parts than that
 abbrev pub is_long_at : ℕ → Gate → ℕ → Bool
 is_long_at most gate at = ltb most (length (front_at gate (suc at)))
 

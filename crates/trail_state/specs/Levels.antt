@@ -1,4 +1,4 @@
--- The gates of an order with their choices, and the ends of trails that every list of choices comes to.
+-- The gates of an order with their choices, and the ends of trails that every list of choices results in.
 use Rattle.std.specs.Prelude.{ℕ, ◌≡◌, ◌≢◌, ◌+◌, ◌-◌, ◌<◌, List, [], ◌∷◌, AllPairs, All, Contains}
 use Rattle.cell_num.specs.declared.net.NetNo.{NetNo}
 use Rattle.cell_num.specs.declared.finger.Fingers.{Fingers}
@@ -36,7 +36,7 @@ AreLevels f [] [] = Unit {0}
 AreLevels f (g ∷ gs) (l ∷ ls) = IsLevel f g gs l × AreLevels f gs ls
 AreLevels f _ _ = ⊥
 
--- from the state on, each list of choices, one of each gate, comes to at least so many ends
+-- from the state on, each list of choices, one of each gate, results in at least that many ends
 abbrev pub Ends : List Level → List Place → ℕ → Type 0
 Ends [] s k = k ≡ 0
 Ends (l ∷ ls) s k =

@@ -3,7 +3,7 @@ pub mod Levels
 pub mod Nodes
 pub mod Pairings
 pub mod Settling
--- What these stand on. In `Same` are proofs too, which the trait `Hash` asks for here.
+-- What these use. In `Same` are proofs too, which the trait `Hash` requires here.
 pub mod Choices
 pub mod Edges
 pub mod Fronts

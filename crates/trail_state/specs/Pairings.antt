@@ -32,6 +32,6 @@ gate_of f gate = record {
 abbrev pub choices_of : Fingers → ℕ → List (List Edge)
 choices_of f gate = fronts.choices_of (gate_of f gate)
 
--- behind one of the columns of the gate there are more ways to pair its fingers so far
+-- after one of the columns of the gate there are more ways to pair its fingers so far
 abbrev pub has_long_front : ℕ → Fingers → ℕ → Bool
 has_long_front most f gate = fronts.has_long_front most (gate_of f gate)

@@ -44,7 +44,7 @@ abbrev pub differ : Bool → Bool → Bool
 differ true b = not b
 differ false b = b
 
--- an edge from a to b makes one class of theirs, and meets both once more
+-- an edge from a to b makes one class of theirs, and meets both again
 abbrev pub joined_place : Place → Place → Place → Place
 joined_place a b p = record {
   node = p.node;

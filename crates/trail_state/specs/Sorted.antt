@@ -9,7 +9,7 @@ use Rattle.trail_state.specs.declared.edge.Edge.{Edge}
 abbrev pub is_below : Edge → Edge → Bool
 is_below e d = ltb d.a.0 e.a.0 || ((d.a.0 == e.a.0) && ltb d.b.0 e.b.0)
 
--- behind the edges below it
+-- after the edges below it
 abbrev pub inserted : Edge → List Edge → List Edge
 inserted e ds = filter (is_below e) ds ++ e ∷ filter (λ d. not (is_below e d)) ds
 

@@ -29,5 +29,5 @@ impl Edge {
     }
 }
 
-/// How the fingers of a gate may stand in columns: the edges, in ascending order.
+/// How the fingers of a gate may be paired in columns: the edges, in ascending order.
 pub type Choice = List<Edge>;

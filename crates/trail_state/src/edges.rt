@@ -93,7 +93,7 @@ fn add_p(all: &mut Vec<Edge>, nets: &[u32], x: NetPair, left: u32) -> Result<(),
     Ok(())
 }
 
-/// The edges of a P finger that stands alone: its empty place has each two of the nets.
+/// The edges of a P finger that is alone: its empty place has each two of the nets.
 pub(crate) fn p_alone(alloc: Global, nets: &[u32], x: NetPair) -> Result<Vec<Edge>, AllocError>
     requires nets { All (λ net. net < 256) nets.now }
     ensures { IfOk result (λ all. all.items ≡ p_edges nets.now x) }
@@ -116,7 +116,7 @@ fn add_n(all: &mut Vec<Edge>, nets: &[u32], y: NetPair, left: u32) -> Result<(),
     Ok(())
 }
 
-/// The edges of an N finger that stands alone: its empty place has each two of the nets.
+/// The edges of an N finger that is alone: its empty place has each two of the nets.
 pub(crate) fn n_alone(alloc: Global, nets: &[u32], y: NetPair) -> Result<Vec<Edge>, AllocError>
     requires nets { All (λ net. net < 256) nets.now }
     ensures { IfOk result (λ all. all.items ≡ n_edges nets.now y) }

@@ -13,7 +13,7 @@ use indexmap::IndexSet;
 use std::alloc::{AllocError, Global};
 use std::hash::{Hash, Hasher};
 
-/// Some columns of a gate, the first that are listed: their edges in ascending order, and the N fingers that stand in
+/// Some columns of a gate, the first that are listed: their edges in ascending order, and the N fingers that are in
 /// none of them.
 #[derive(Debug, PartialEq, Eq, Drop)]
 pub struct Part {
@@ -142,7 +142,7 @@ fn add_n(alloc: Global, all: &mut IndexSet<Part>, gate: &Gate, part: &Part) -> R
     add_column(alloc, all, part, left, edges.as_slice())
 }
 
-// Adds the part with its next column in each way, where these P fingers stand in none yet.
+// Adds the part with its next column in each way, where these P fingers are in none yet.
 #[tactic(auto, using(crate::proofs::Parts::both_added))]
 fn add_next(
     alloc: Global,

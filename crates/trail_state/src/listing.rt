@@ -15,7 +15,7 @@ fn columns(gate: &Gate) -> usize
     gate.p.len().max(gate.n.len())
 }
 
-// The P fingers that stand in none of the first columns.
+// The P fingers that are in none of the first columns.
 fn behind(gate: &Gate, at: usize) -> &[NetPair]
     ensures { result.now ≡ drop at gate.now.p }
 {

@@ -7,7 +7,7 @@ use crate::{Choice, listing};
 use cell_num::{Fingers, List, NetNo, NoMemory};
 use std::alloc::Global;
 
-/// The choices of a gate, each once: which of its P fingers stands with which N finger, turned alike
+/// The choices of a gate, each once: which of its P fingers is above which N finger, turned alike
 /// or not. A place that stays empty is filled with each two nets of its row.
 pub fn choices(alloc: Global, fingers: &Fingers, gate: NetNo) -> Result<List<Choice>, NoMemory>
     requires { AreFingers fingers.now }

@@ -18,7 +18,7 @@ returns-then-whole-clause-proof c =
     (sym (c.in_ok-crowded.ensures ∙ ap (first_with_many c.args.fingers.now) c.as_slice.ensures) ∙ c.in_default.is)
     (subst (λ (gs : List NetNo). AreLevels c.args.fingers.now gs c.in_ok-levels.levels) c.as_slice-2.ensures c.in_ok-levels.ensures.are)
     (c.in_ok-levels.ensures.is ∙ ap (levels_of c.args.fingers.now) c.as_slice-2.ensures)
-    c.in_ok-whole.ensures.further.kept c.in_ok-fill.ensures refl refl c.gaps.ensures
+    c.in_ok-whole.ensures.further.kept c.in_ok-whole.ensures.reached c.in_ok-fill.ensures refl refl c.gaps.ensures
 
 pub refute_limits-requires-clause-chained : goal.refute_limits-requires-clause-chained
 refute_limits-requires-clause-chained c = are_chained c.args.fingers.now c.in_ok-order.order c.in_ok-levels.levels c.requires.fingers (subst (λ (gs : List NetNo). AreLevels c.args.fingers.now gs c.in_ok-levels.levels) c.as_slice-2.ensures c.in_ok-levels.ensures.are)
@@ -41,7 +41,7 @@ returns-clause-stopped c = record {
       (sym (c.in_ok-crowded.ensures ∙ ap (first_with_many c.args.fingers.now) c.as_slice.ensures) ∙ c.in_default.is)
       (subst (λ (gs : List NetNo). AreLevels c.args.fingers.now gs c.in_ok-levels.levels) c.as_slice-2.ensures c.in_ok-levels.ensures.are)
       (c.in_ok-levels.ensures.is ∙ ap (levels_of c.args.fingers.now) c.as_slice-2.ensures)
-      c.in_ok-whole.ensures.further.kept c.in_ok-fill.ensures refl refl c.gaps.ensures;
+      c.in_ok-whole.ensures.further.kept c.in_ok-whole.ensures.reached c.in_ok-fill.ensures refl refl c.gaps.ensures;
   nodes = spent_is c.in_ok-levels.levels (record { fill = c.in_ok-fill.fill; order = c.in_ok-order.order; lemmas = c.refute_limits.new.kept.lines; best = None }) c.new-kept.result c.refute_limits.new.kept c.args.left.now c.refute_limits.new.left (length c.in_ok-levels.levels) (length c.in_ok-order.order) c.in_ok-whole.ensures.further.kept refl c.new-kept.ensures.lemmas
       (as_many c.args.fingers.now c.in_ok-order.order c.in_ok-levels.levels (subst (λ (gs : List NetNo). AreLevels c.args.fingers.now gs c.in_ok-levels.levels) c.as_slice-2.ensures c.in_ok-levels.ensures.are))
       (c.in_ok-whole.ensures.spent_path c.if-whole.false);

@@ -1,5 +1,6 @@
-use Rattle.std.proofs.Common.{◌≡◌, ◌≤◌, ◌+◌, ◌*◌, length}
+use Rattle.std.proofs.Common.{◌≡◌, ◌≤◌, ◌+◌, ◌*◌, All, length}
 use Rattle.trail_check.specs.Justified.{ends_proved, gaps_proved}
+use Rattle.trail_search.specs.Reached.{IsWithin}
 use Rattle.trail_search.specs.Search.{IsFurther}
 use Rattle.trail_search.proofs.New.{KnowFewer}
 use Rattle.trail_search.proofs.limits.refute_limits.Given as goal
@@ -11,3 +12,4 @@ invariant-loop-limit l =
     × (l.left + length l.kept.lemmas ≡ l.fn.left + length l.fn.kept.lemmas)
     × (l.limit ≤ gaps_proved (ends_proved l.kept.lemmas))
     × KnowFewer (2 * (l.limit + 1)) l.kept
+    × All (IsWithin l.levels (2 * l.limit + 1)) l.kept.lemmas

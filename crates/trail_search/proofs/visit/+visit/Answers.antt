@@ -8,23 +8,24 @@ use Rattle.trail_state.specs.declared.level.Level.{Level}
 use Rattle.trail_search.proofs.Grown.{IsChoice, all_fail, choice_at, fails_dear, fails_known, fails_still, further_then, state_behind}
 use Rattle.trail_search.proofs.Ends.{choice_open, leaf_open}
 use Rattle.trail_search.proofs.New.{stay_behind, unknown_still}
+use Rattle.trail_search.proofs.Reached.{within_more, within_then}
 use Rattle.trail_search.proofs.Tied.{tied_behind, tied_still}
 use Rattle.trail_search.proofs.visit.+visit.Goals as goal
 
 pub loop-choice-preserved-then-allowed-settled : goal.loop-choice-preserved-then-allowed-settled
 loop-choice-preserved-then-allowed-settled t c =
     let choice : IsChoice c.in-Some.level.now c.args.state.now c.as_slice-choice-items.result.now c.loop-choice.choice-index c.in_ok-settled.settled.state c.in_ok-settled.settled.ends = choice_at c.in-Some.level.now c.args.state.now c.as_slice-choice-items.result.now c.loop-choice.choice-index c.in_ok-settled.settled.state c.in_ok-settled.settled.ends c.choice-item.result c.as_slice-in-loop-choice-2.result.now c.as_slice.result.now c.as_slice-in-loop-choice.result.now c.loop-choice-test.true c.choice-item.is c.as_slice-in-loop-choice-2.ensures c.as_slice.ensures c.as_slice-in-loop-choice.ensures c.in_ok-settled.ensures.state c.in_ok-settled.ensures.ends in
-    (c.loop-choice.invariant.0, c.loop-choice.invariant.1, fails_dear c.loop-choice.kept.lemmas c.in-Some.level.now c.args.done c.args.state.now c.in_ok-settled.settled.state c.args.allowed c.in_ok-settled.settled.ends c.as_slice-choice-items.result.now c.loop-choice.choice-index choice c.if-allowed-settled.true c.loop-choice.invariant.2, c.loop-choice.invariant.3, c.loop-choice.invariant.4)
+    (c.loop-choice.invariant.0, c.loop-choice.invariant.1, fails_dear c.loop-choice.kept.lemmas c.in-Some.level.now c.args.done c.args.state.now c.in_ok-settled.settled.state c.args.allowed c.in_ok-settled.settled.ends c.as_slice-choice-items.result.now c.loop-choice.choice-index choice c.if-allowed-settled.true c.loop-choice.invariant.2, c.loop-choice.invariant.3, c.loop-choice.invariant.4, c.loop-choice.invariant.5)
 
 pub loop-choice-preserved-then-knows : goal.loop-choice-preserved-then-knows
 loop-choice-preserved-then-knows t c =
     let choice : IsChoice c.in-Some.level.now c.args.state.now c.as_slice-choice-items.result.now c.loop-choice.choice-index c.in_ok-settled.settled.state c.in_ok-settled.settled.ends = choice_at c.in-Some.level.now c.args.state.now c.as_slice-choice-items.result.now c.loop-choice.choice-index c.in_ok-settled.settled.state c.in_ok-settled.settled.ends c.choice-item.result c.as_slice-in-loop-choice-2.result.now c.as_slice.result.now c.as_slice-in-loop-choice.result.now c.loop-choice-test.true c.choice-item.is c.as_slice-in-loop-choice-2.ensures c.as_slice.ensures c.as_slice-in-loop-choice.ensures c.in_ok-settled.ensures.state c.in_ok-settled.ensures.ends in
-    (c.loop-choice.invariant.0, c.loop-choice.invariant.1, fails_known c.loop-choice.kept.lemmas c.in-Some.level.now c.args.done c.args.state.now c.in_ok-settled.settled.state c.args.allowed c.in_ok-settled.settled.ends c.as_slice-choice-items.result.now c.loop-choice.choice-index choice c.if-allowed-settled.false (search rules) c.loop-choice.invariant.2, c.loop-choice.invariant.3, c.loop-choice.invariant.4)
+    (c.loop-choice.invariant.0, c.loop-choice.invariant.1, fails_known c.loop-choice.kept.lemmas c.in-Some.level.now c.args.done c.args.state.now c.in_ok-settled.settled.state c.args.allowed c.in_ok-settled.settled.ends c.as_slice-choice-items.result.now c.loop-choice.choice-index choice c.if-allowed-settled.false (search rules) c.loop-choice.invariant.2, c.loop-choice.invariant.3, c.loop-choice.invariant.4, c.loop-choice.invariant.5)
 
 pub loop-choice-preserved : goal.loop-choice-preserved
 loop-choice-preserved t c =
     let choice : IsChoice c.in-Some.level.now c.args.state.now c.as_slice-choice-items.result.now c.loop-choice.choice-index c.in_ok-settled.settled.state c.in_ok-settled.settled.ends = choice_at c.in-Some.level.now c.args.state.now c.as_slice-choice-items.result.now c.loop-choice.choice-index c.in_ok-settled.settled.state c.in_ok-settled.settled.ends c.choice-item.result c.as_slice-in-loop-choice-2.result.now c.as_slice.result.now c.as_slice-in-loop-choice.result.now c.loop-choice-test.true c.choice-item.is c.as_slice-in-loop-choice-2.ensures c.as_slice.ensures c.as_slice-in-loop-choice.ensures c.in_ok-settled.ensures.state c.in_ok-settled.ensures.ends in
-    (further_then c.args.levels.now c.args.kept.now c.loop-choice.kept c.visit.new.kept c.loop-choice.invariant.0 c.in-Ok.ensures.further, omega (arith, c.in-Ok.ensures.left, c.loop-choice.invariant.1), fails_known c.visit.new.kept.lemmas c.in-Some.level.now c.args.done c.args.state.now c.in_ok-settled.settled.state c.args.allowed c.in_ok-settled.settled.ends c.as_slice-choice-items.result.now c.loop-choice.choice-index choice c.if-allowed-settled.false (c.in-Ok.ensures.failed c.if-found.false) (fails_still c.args.levels.now c.loop-choice.kept c.visit.new.kept c.in-Some.level.now c.args.done c.args.state.now (c.args.allowed + 1) (take c.loop-choice.choice-index c.as_slice-choice-items.result.now) c.in-Ok.ensures.further c.loop-choice.invariant.2), tied_still c.args.kept.now c.loop-choice.kept c.visit.new.kept c.args.left.now c.loop-choice.left c.visit.new.left c.loop-choice.invariant.3 (c.in-Ok.ensures.each c.if-found.false), stay_behind c.args.done (c.args.allowed + 1) (c.args.allowed - c.in_ok-settled.settled.ends + 1) c.args.kept.now c.loop-choice.kept c.visit.new.kept (omega arith) c.loop-choice.invariant.4 c.in-Ok.ensures.others)
+    (further_then c.args.levels.now c.args.kept.now c.loop-choice.kept c.visit.new.kept c.loop-choice.invariant.0 c.in-Ok.ensures.further, omega (arith, c.in-Ok.ensures.left, c.loop-choice.invariant.1), fails_known c.visit.new.kept.lemmas c.in-Some.level.now c.args.done c.args.state.now c.in_ok-settled.settled.state c.args.allowed c.in_ok-settled.settled.ends c.as_slice-choice-items.result.now c.loop-choice.choice-index choice c.if-allowed-settled.false (c.in-Ok.ensures.failed c.if-found.false) (fails_still c.args.levels.now c.loop-choice.kept c.visit.new.kept c.in-Some.level.now c.args.done c.args.state.now (c.args.allowed + 1) (take c.loop-choice.choice-index c.as_slice-choice-items.result.now) c.in-Ok.ensures.further c.loop-choice.invariant.2), tied_still c.args.kept.now c.loop-choice.kept c.visit.new.kept c.args.left.now c.loop-choice.left c.visit.new.left c.loop-choice.invariant.3 (c.in-Ok.ensures.each c.if-found.false), stay_behind c.args.done (c.args.allowed + 1) (c.args.allowed - c.in_ok-settled.settled.ends + 1) c.args.kept.now c.loop-choice.kept c.visit.new.kept (omega arith) c.loop-choice.invariant.4 c.in-Ok.ensures.others, within_then c.args.levels.now c.in-Some.level.now c.args.done c.args.state.now c.in_ok-settled.settled.state c.args.allowed c.in_ok-settled.settled.ends c.as_slice-choice-items.result.now c.loop-choice.choice-index c.args.kept.now c.loop-choice.kept c.visit.new.kept (sym c.in-Some.ensures) c.as_slice-choice-items.ensures choice c.if-allowed-settled.false c.loop-choice.invariant.5 c.in-Ok.ensures.within)
 
 pub keep-requires-clause-justified : goal.keep-requires-clause-justified
 keep-requires-clause-justified t c =
@@ -76,3 +77,16 @@ returns-then-found-clause-path t c =
 
 pub keep-requires-clause-new : goal.keep-requires-clause-new
 keep-requires-clause-new t c = unknown_still c.args.done (c.args.allowed + 1) c.args.kept.now c.loop-choice.kept c.args.state.now (c.args.allowed + 1) c.loop-choice.invariant.4 c.requires.new
+
+pub returns-then-found-clause-within : goal.returns-then-found-clause-within
+returns-then-found-clause-within t c =
+    let choice : IsChoice c.in-Some.level.now c.args.state.now c.as_slice-choice-items.result.now c.loop-choice.choice-index c.in_ok-settled.settled.state c.in_ok-settled.settled.ends = choice_at c.in-Some.level.now c.args.state.now c.as_slice-choice-items.result.now c.loop-choice.choice-index c.in_ok-settled.settled.state c.in_ok-settled.settled.ends c.choice-item.result c.as_slice-in-loop-choice-2.result.now c.as_slice.result.now c.as_slice-in-loop-choice.result.now c.loop-choice-test.true c.choice-item.is c.as_slice-in-loop-choice-2.ensures c.as_slice.ensures c.as_slice-in-loop-choice.ensures c.in_ok-settled.ensures.state c.in_ok-settled.ensures.ends in
+    within_then c.args.levels.now c.in-Some.level.now c.args.done c.args.state.now c.in_ok-settled.settled.state c.args.allowed c.in_ok-settled.settled.ends c.as_slice-choice-items.result.now c.loop-choice.choice-index c.args.kept.now c.loop-choice.kept c.visit.new.kept (sym c.in-Some.ensures) c.as_slice-choice-items.ensures choice c.if-allowed-settled.false c.loop-choice.invariant.5 c.in-Ok.ensures.within
+
+pub returns-in-Err-clause-spent_within : goal.returns-in-Err-clause-spent_within
+returns-in-Err-clause-spent_within t c =
+    let choice : IsChoice c.in-Some.level.now c.args.state.now c.as_slice-choice-items.result.now c.loop-choice.choice-index c.in_ok-settled.settled.state c.in_ok-settled.settled.ends = choice_at c.in-Some.level.now c.args.state.now c.as_slice-choice-items.result.now c.loop-choice.choice-index c.in_ok-settled.settled.state c.in_ok-settled.settled.ends c.choice-item.result c.as_slice-in-loop-choice-2.result.now c.as_slice.result.now c.as_slice-in-loop-choice.result.now c.loop-choice-test.true c.choice-item.is c.as_slice-in-loop-choice-2.ensures c.as_slice.ensures c.as_slice-in-loop-choice.ensures c.in_ok-settled.ensures.state c.in_ok-settled.ensures.ends in
+    λ spent. within_then c.args.levels.now c.in-Some.level.now c.args.done c.args.state.now c.in_ok-settled.settled.state c.args.allowed c.in_ok-settled.settled.ends c.as_slice-choice-items.result.now c.loop-choice.choice-index c.args.kept.now c.loop-choice.kept c.visit.new.kept (sym c.in-Some.ensures) c.as_slice-choice-items.ensures choice c.if-allowed-settled.false c.loop-choice.invariant.5 (c.in-Err.ensures.spent_within spent)
+
+pub returns-clause-within : goal.returns-clause-within
+returns-clause-within t c = within_more c.args.levels.now c.args.done c.args.state.now (c.args.allowed + 1) c.args.kept.now c.loop-choice.kept c.keep.new.self c.loop-choice.invariant.5 c.in_ok-keep.ensures.within

@@ -1,5 +1,5 @@
 use Rattle.std.proofs.Common.{◌≡◌, ◌≤◌, ◌+◌, ◌-◌, All, length, take}
-use Rattle.trail_search.specs.Search.{IsFurther, StayAs}
+use Rattle.trail_search.specs.Search.{IsFurther, StayAs, StayWithin}
 use Rattle.trail_search.proofs.Grown.{Fails}
 use Rattle.trail_search.proofs.visit.+visit.Given as goal
 
@@ -13,3 +13,4 @@ invariant-loop-choice l =
     × All (Fails l.kept.lemmas l.level l.done l.state (l.allowed + 1)) (take l.choice-index l.choice-items)
     × (l.left + length l.kept.lemmas + 1 ≡ l.fn.left + length l.fn.kept.lemmas)
     × StayAs (l.done + 1) (l.allowed + 1) l.fn.kept l.kept
+    × StayWithin l.levels l.done l.state (l.allowed + 1) l.fn.kept l.kept
