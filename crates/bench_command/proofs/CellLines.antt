@@ -8,9 +8,9 @@ use Rattle.std.proofs.lemmas.List.Folds.{list_all-append}
 use Rattle.std.proofs.lemmas.List.FromFn.{length-map-range_with_len}
 use Rattle.spice_text.specs.Words.{words_of}
 use Rattle.spice_net.specs.Chosen.{first_is, second_is}
-use Rattle.cell_bench.specs.declared.stage.Stage.{Stage}
-use Rattle.cell_bench.specs.Cells.{stage_at, stage_count, stages_of}
-use Rattle.cell_bench.specs.Text.{cell_name}
+use Rattle.bench_command.specs.declared.stage.Stage.{Stage}
+use Rattle.bench_command.specs.Cells.{stage_at, stage_count, stages_of}
+use Rattle.bench_command.specs.Text.{cell_name}
 use Rattle.bench_command.proofs.Choice.{begin_words, end_words}
 use Rattle.bench_command.proofs.Head.{ends_dark, head_words, no_equals}
 use Rattle.bench_command.proofs.Lines.{is_kept, is_text_line}

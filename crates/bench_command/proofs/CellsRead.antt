@@ -17,8 +17,8 @@ use Rattle.spice_net.specs.Chosen.{chosen_in, lines_in, of_text}
 use Rattle.spice_net.specs.Subcircuit.{subcircuit}
 use Rattle.finger_fold.specs.declared.folding.FoldFault.{FoldFault}
 use Rattle.finger_fold.specs.Folding.{folded}
-use Rattle.cell_bench.specs.Cells.{stages_of}
-use Rattle.cell_bench.specs.Text.{bench_text, cell_name}
+use Rattle.bench_command.specs.Cells.{stages_of}
+use Rattle.bench_command.specs.Text.{bench_text, cell_name}
 use Rattle.bench_command.specs.Read.{IsRead, most_cell_columns}
 use Rattle.bench_command.proofs.CellLines.{cell_length, cell_words, ended, inside_words, lines_begin, none_ends, other_begins, words_of_cells}
 use Rattle.bench_command.proofs.Choice.{begin_words, chosen_lines, no_comments}

@@ -1,8 +1,8 @@
 -- A test of all chains of so many stages.
 use Rattle.std.specs.Prelude.{ℕ, zero, suc, ◌≡◌, ◌&&◌, Bool, true, List, [], ◌∷◌, length}
 use Rattle.std.proofs.lemmas.Bool.{and_parts}
-use Rattle.cell_bench.specs.declared.stage.Stage.{Stage}
-use Rattle.cell_bench.specs.declared.stage.Stage.TheVariants.{Inverter, Nand2, Nor2}
+use Rattle.bench_command.specs.declared.stage.Stage.{Stage}
+use Rattle.bench_command.specs.declared.stage.Stage.TheVariants.{Inverter, Nand2, Nor2}
 
 abbrev pub all_chains : ℕ → (List Stage → Bool) → Bool
 all_chains zero test = test []

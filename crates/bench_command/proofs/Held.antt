@@ -8,7 +8,7 @@ use Rattle.finger_fold.specs.declared.folding.FoldFault.{FoldFault}
 use Rattle.finger_fold.specs.Folding.{folded}
 use Rattle.cell_num.specs.declared.finger.Fingers.{Fingers}
 use Rattle.cell_num.specs.Names.{is_cell}
-use Rattle.cell_bench.specs.Text.{cell_name}
+use Rattle.bench_command.specs.Text.{cell_name}
 use Rattle.bench_command.specs.Read.{IsRead}
 use Rattle.bench_command.proofs.Names.{name_is_cell as bench_name}
 use Rattle.bench_command.proofs.CellsRead.{cell_is_read}

@@ -22,3 +22,6 @@ pub mod Ended
 pub mod Held
 pub mod Sizes
 pub mod Tallied
+pub mod Drawn
+pub mod Lengths
+mod Examples

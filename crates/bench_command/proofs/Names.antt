@@ -8,7 +8,7 @@ use Rattle.std.proofs.lemmas.Fmt.{decimal_injective, length-decimal-le}
 use Rattle.std.proofs.lemmas.List.Elements.{All-cons, All-nil}
 use Rattle.std.proofs.lemmas.Slice.Eq.{bytes_eq-Decides}
 use Rattle.cell_num.specs.Names.{lowered, is_cell, is_cell_byte}
-use Rattle.cell_bench.specs.Text.{cell_name}
+use Rattle.bench_command.specs.Text.{cell_name}
 use Rattle.bench_command.specs.Read.{IsCellName}
 use Rattle.bench_command.proofs.Digits.{digits_pass}
 use Rattle.bench_command.proofs.Head.{is_dark, no_equals}

@@ -18,11 +18,11 @@ use Rattle.spice_net.specs.Subcircuit.{pins_of as pins_in, subckt_of, with_rails
 use Rattle.spice_net.specs.Transistors.{transistors_of as transistors_in}
 use Rattle.finger_fold.specs.declared.folding.FoldFault.{FoldFault}
 use Rattle.finger_fold.specs.Folding.{folded}
-use Rattle.cell_bench.specs.declared.net.Net.TheVariants.{Output, Vdd, Gnd}
-use Rattle.cell_bench.specs.declared.stage.Stage.{Stage}
-use Rattle.cell_bench.specs.declared.transistor.Transistor.{Transistor}
-use Rattle.cell_bench.specs.Cells.{second_inputs, transistors_of}
-use Rattle.cell_bench.specs.Text.{word_text}
+use Rattle.bench_command.specs.declared.net.Net.TheVariants.{Output, Vdd, Gnd}
+use Rattle.bench_command.specs.declared.stage.Stage.{Stage}
+use Rattle.bench_command.specs.declared.transistor.Transistor.{Transistor}
+use Rattle.bench_command.specs.Cells.{second_inputs, transistors_of}
+use Rattle.bench_command.specs.Text.{word_text}
 use Rattle.bench_command.specs.Read.{most_cell_columns}
 use Rattle.bench_command.proofs.Chains.{all_chains, one_chain}
 use Rattle.bench_command.proofs.Head.{ends_dark, no_equals, parts_of}

@@ -6,10 +6,10 @@ use Rattle.std.proofs.lemmas.List.{append_assoc}
 use Rattle.std.proofs.lemmas.List.Concat.{flat_map-append}
 use Rattle.cell_num.specs.declared.finger.Row.{Row}
 use Rattle.cell_num.specs.declared.finger.Row.TheVariants.{P, N}
-use Rattle.cell_bench.specs.declared.stage.Stage.{Stage}
-use Rattle.cell_bench.specs.declared.transistor.Transistor.{Transistor}
-use Rattle.cell_bench.specs.Cells.{stages_of, transistors_of}
-use Rattle.cell_bench.specs.Text.{bench_text, cell_name, cell_text, chain_text, head_text, model_text, transistor_text, word_text}
+use Rattle.bench_command.specs.declared.stage.Stage.{Stage}
+use Rattle.bench_command.specs.declared.transistor.Transistor.{Transistor}
+use Rattle.bench_command.specs.Cells.{stages_of, transistors_of}
+use Rattle.bench_command.specs.Text.{bench_text, cell_name, cell_text, chain_text, head_text, model_text, transistor_text, word_text}
 use Rattle.bench_command.proofs.Lines.{fed}
 use Rattle.bench_command.proofs.Tests.{inside_lines, model_line, pins_text, transistor_line}
 

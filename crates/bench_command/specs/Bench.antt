@@ -9,7 +9,7 @@ use Rattle.finger_fold.specs.Folding.{folded}
 use Rattle.cell_inputs.specs.Inputs.{Inputs}
 use Rattle.cell_inputs.specs.Style.{plain_style}
 use Rattle.cell_make.specs.Making.{MakeAnswer, Made, Cyclic, Tall, Unfinished, Makes, drawing_in, library_of}
-use Rattle.cell_bench.specs.Text.{bench_text, cell_name}
+use Rattle.bench_command.specs.Text.{bench_text, cell_name}
 use Rattle.bench_command.specs.declared.tally.Tally.{Tally}
 use Rattle.bench_command.specs.Tally.{added, nothing}
 

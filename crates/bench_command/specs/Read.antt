@@ -6,7 +6,7 @@ use Rattle.tech_file.specs.Technology.{plain}
 use Rattle.spice_net.specs.declared.subckt.Subckt.{Subckt}
 use Rattle.spice_net.specs.Subcircuit.{subcircuit}
 use Rattle.finger_fold.specs.Folding.{folded}
-use Rattle.cell_bench.specs.Text.{bench_text, cell_name}
+use Rattle.bench_command.specs.Text.{bench_text, cell_name}
 
 -- the most columns of a generated cell
 abbrev pub most_cell_columns : ℕ

@@ -9,7 +9,7 @@ ghost use Rattle.row_state.specs.Start.{AreKinds, AreSomeKinds};
 ghost use Rattle.bound_log.specs.declared.log.Log.{Log};
 ghost use Rattle.row_search.specs.Ended.{IsSpent};
 ghost use Rattle.row_search.specs.First.{IsFirstLeast};
-ghost use Rattle.cell_bench.specs.Text.{cell_name};
+ghost use Rattle.bench_command.specs.Text.{cell_name};
 ghost use Rattle.bench_command.specs.Paired.{ArePaired, IsBound, nodes_enough};
 ghost use Rattle.bench_command.specs.Read.{IsCellName, IsRead};
 

@@ -2,10 +2,10 @@ ghost use Rattle.std.specs.Prelude.{◌≡◌, ◌≤◌, ◌+◌, IfOk, length}
 ghost use Rattle.bench_command.specs.Bench.{HoldsCell, IsBenched, IsCountOf};
 ghost use Rattle.bench_command.specs.Tally.{AreAllEnded, IsWithin};
 
+use crate::bench_text;
 use crate::count::counted;
 use crate::read::bench_inputs;
 use crate::tally::Tally;
-use cell_bench::bench_text;
 use cell_inputs::Style;
 use cell_make::Outcome;
 use cell_num::{MOST_BYTES, NoMemory};

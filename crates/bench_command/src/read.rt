@@ -1,7 +1,7 @@
 ghost use Rattle.std.specs.Prelude.{◌≤◌, IfOk, length};
 ghost use Rattle.bench_command.specs.Bench.{AreInputsOf, HoldsCell};
 
-use cell_bench::cell_name;
+use crate::cell_name;
 use cell_inputs::Inputs;
 use cell_num::{MOST_BYTES, NoMemory};
 use finger_fold::{FoldFault, fold};

@@ -3,6 +3,7 @@ use Rattle.std.specs.Prelude.{ℕ, ◌&&◌, not, nat_le, Bool, List, map, lengt
 use Rattle.std.specs.List.{list_all}
 use Rattle.std.specs.declared.alloc.Global.{Global}
 use Rattle.cell_num.specs.Names.{is_cell, lowered}
+use Rattle.cell_inputs.specs.declared.style.LeastRow.{LeastRow}
 
 -- the words as bytes
 abbrev pub texts : List (String Global) → List (List ℕ)
@@ -14,13 +15,14 @@ pub record CellAsked : Type 0 where
   pub spice : List ℕ
   pub cell : List ℕ
 
--- the technology's file, none for the plain one, the SPICE file, the row's name, and the names of its cells from the
--- left
+-- the technology's file, none for the plain one, the SPICE file, the row's name, the names of its cells from the left,
+-- and which of its least rows each cell is drawn with
 pub record RowAsked : Type 0 where
   pub tech : Option (List ℕ)
   pub spice : List ℕ
   pub top : List ℕ
   pub cells : List (List ℕ)
+  pub choice : LeastRow
 
 -- the cells of a row: 2 to 16
 abbrev pub are_row_cells : List (List ℕ) → Bool

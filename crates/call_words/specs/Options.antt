@@ -1,7 +1,10 @@
 -- The words that say how a cell is made, and what kind of evidence a call is about.
-use Rattle.std.specs.Prelude.{ℕ, List, [], ◌∷◌, Option, Some, None, codes, bytes_eq, if◌then◌else◌}
+use Rattle.std.specs.Prelude.{ℕ, ◌-◌, Bool, List, [], ◌∷◌, length, take, get_or, Option, Some, None, codes, bytes_eq}
+use Rattle.std.specs.Prelude.{if◌then◌else◌}
 use Rattle.call_words.specs.declared.evidence.Evidence.{Evidence}
 use Rattle.call_words.specs.declared.evidence.Evidence.TheVariants.{Log, Trails}
+use Rattle.cell_inputs.specs.declared.style.LeastRow.{LeastRow}
+use Rattle.cell_inputs.specs.declared.style.LeastRow.TheVariants.{First, Lowest}
 use Rattle.cell_inputs.specs.declared.style.Style.{Style}
 use Rattle.cell_inputs.specs.declared.style.Taps.{Taps}
 use Rattle.cell_inputs.specs.declared.style.Taps.TheVariants.{Without, With}
@@ -32,3 +35,11 @@ evidence_of _ = None
 abbrev pub trails_of : List (List ℕ) → Evidence × List (List ℕ)
 trails_of [] = (Log, [])
 trails_of (word ∷ more) = if bytes_eq word (codes "--trails") then (Trails, more) else (Log, word ∷ more)
+
+-- the last word is `--low`
+abbrev pub ends_low : List (List ℕ) → Bool
+ends_low words = bytes_eq (get_or words (length words - 1) []) (codes "--low")
+
+-- then it asks for the lowest row of each cell; and the words before it
+abbrev pub choice_of : List (List ℕ) → LeastRow × List (List ℕ)
+choice_of words = if ends_low words then (Lowest, take (length words - 1) words) else (First, words)

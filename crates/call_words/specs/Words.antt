@@ -8,7 +8,8 @@ use Rattle.call_words.specs.declared.evidence.Evidence.{Evidence}
 use Rattle.call_words.specs.declared.form.Form.{Form as Read}
 use Rattle.call_words.specs.declared.form.Form.TheVariants as read
 use Rattle.call_words.specs.Asked.{CellAsked, RowAsked, are_row_cells, is_top, texts}
-use Rattle.call_words.specs.Options.{evidence_of, style_of, taps_of, trails_of, wiring_of}
+use Rattle.call_words.specs.Options.{choice_of, evidence_of, style_of, taps_of, trails_of, wiring_of}
+use Rattle.cell_inputs.specs.declared.style.LeastRow.{LeastRow}
 use Rattle.cell_inputs.specs.declared.style.Style.{Style}
 use Rattle.cell_inputs.specs.declared.style.Taps.{Taps}
 use Rattle.cell_inputs.specs.declared.style.Wiring.{Wiring}
@@ -25,7 +26,7 @@ use Rattle.scmos_rules.specs.declared.rules.Deck.TheVariants as deck
 --     certificate of tracks
 --   extract TECH GDS CELL, which may end with `--taps` for the deck of cells with taps; no technology is the plain one
 --   bench NUMBER
---   row TECH SPICE OUT TOP CELL CELL ..
+--   row TECH SPICE OUT TOP CELL CELL .., which may end with `--low` for the lowest of the least rows of each cell
 --   agree TECH GDS LEF CELL
 pub data Form : Type 0 where
   Plan : (cell : CellAsked) (evidence : Evidence) → Form
@@ -72,6 +73,7 @@ usage_text =
     ++ codes "make TECH SPICE CELL OUT [--dogleg] [--taps] [--trails] --from FILE\n"
     ++ codes "make TECH SPICE CELL OUT [--taps] --low [--trails]\n"
     ++ codes "check TECH SPICE CELL FILE --low\n"
+    ++ codes "row TECH SPICE OUT TOP CELL CELL .. --low\n"
 
 -- the name of a file: not empty
 abbrev pub is_file : List ℕ → Bool
@@ -195,16 +197,18 @@ abbrev pub bench_of : List (List ℕ) → Option Form
 bench_of (word ∷ []) = option_map (λ number. Bench number) (bench_number word)
 bench_of _ = None
 
--- the row of the words TECH SPICE TOP CELL CELL ..
-abbrev pub asked_row : List ℕ → List ℕ → List ℕ → List (List ℕ) → Option RowAsked
-asked_row tech spice top cells =
+-- the row of the words TECH SPICE TOP CELL CELL .., with this choice of each cell's row
+abbrev pub asked_row : LeastRow → List ℕ → List ℕ → List ℕ → List (List ℕ) → Option RowAsked
+asked_row choice tech spice top cells =
     if is_file tech && is_file spice && is_top top cells && are_row_cells cells
-    then Some (record { tech = tech_of tech; spice = spice; top = top; cells = cells })
+    then Some (record { tech = tech_of tech; spice = spice; top = top; cells = cells; choice = choice })
     else None
 
 abbrev pub row_of : List (List ℕ) → Option Form
-row_of (tech ∷ spice ∷ out ∷ top ∷ cells) =
-    if is_file out then option_map (λ row. Row row out) (asked_row tech spice top cells) else None
+row_of (tech ∷ spice ∷ out ∷ top ∷ more) =
+    if is_file out
+    then option_map (λ row. Row row out) (asked_row (choice_of more).0 tech spice top (choice_of more).1)
+    else None
 row_of _ = None
 
 abbrev pub agree_of : List (List ℕ) → Option Form

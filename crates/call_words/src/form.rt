@@ -8,7 +8,7 @@ use crate::cell_form::{make_of, plan_of};
 use crate::check_form::check_of;
 use crate::count::CellCount;
 use crate::evidence::Evidence;
-use crate::row::{self, RowAsked};
+use crate::row::{self, RowAsked, choice_of};
 use cell_inputs::{Style, Taps};
 use cell_num::{Bytes, NoMemory, is_cell};
 use scmos_rules::Deck;
@@ -126,13 +126,14 @@ fn bench_of(words: &[String]) -> Option<Form<'_>>
 fn row_of(words: &[String]) -> Option<Form<'_>>
     ensures { option_map shown result ≡ row_of (texts words.now) }
 {
-    let [tech, spice, out, top, cells @ ..] = words else {
+    let [tech, spice, out, top, more @ ..] = words else {
         return None;
     };
     if out.is_empty() {
         return None;
     }
-    match row::row_of(tech.as_str(), spice.as_str(), top.as_str(), cells) {
+    let (choice, cells) = choice_of(more);
+    match row::row_of(choice, tech.as_str(), spice.as_str(), top.as_str(), cells) {
         Some(row) => Some(Form::Row {
             row,
             out: out.as_str(),
@@ -199,6 +200,7 @@ make TECH SPICE CELL OUT [--dogleg] [--taps] --trails
 make TECH SPICE CELL OUT [--dogleg] [--taps] [--trails] --from FILE
 make TECH SPICE CELL OUT [--taps] --low [--trails]
 check TECH SPICE CELL FILE --low
+row TECH SPICE OUT TOP CELL CELL .. --low
 ",
     )
 }

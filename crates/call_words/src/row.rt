@@ -3,9 +3,11 @@ ghost use Rattle.std.specs.Prelude.{All, IfOk, IsTrue};
 ghost use Rattle.std.specs.List.{list_all};
 ghost use Rattle.cell_num.specs.Names.{is_cell, lowered};
 ghost use Rattle.call_words.specs.Asked.{are_row_cells, is_top, texts};
+ghost use Rattle.call_words.specs.Options.{choice_of};
 ghost use Rattle.call_words.specs.Words.{asked_row};
 
 use crate::cell::tech_of;
+use cell_inputs::LeastRow;
 use cell_num::{Name, Names, NoMemory, is_cell, lower};
 use std::alloc::Global;
 use std::marker::Model;
@@ -24,6 +26,8 @@ pub struct RowAsked<'a> {
     pub top: &'a str,
     /// The cells' names from the left, 2 to [`MOST_ROW_CELLS`].
     pub cells: &'a [String],
+    /// Which of its least rows each cell is drawn with.
+    pub choice: LeastRow,
 }
 
 impl<'a> Model for RowAsked<'a> {
@@ -37,6 +41,7 @@ impl<'a> Model for RowAsked<'a> {
       spice = a.spice.now;
       top = a.top.now;
       cells = texts a.cells.now;
+      choice = a.choice;
     } };
 
     ghost invariant = { λ a. IsTrue (is_top a.top.now (texts a.cells.now))
@@ -115,14 +120,26 @@ fn is_top(top: &str, cells: &[String]) -> bool
     is_cell(top.as_bytes()) && has_none(cells, top)
 }
 
-/// The row of the words TECH, SPICE, TOP and those of its cells.
+/// The choice that the words after TOP end with, `--low` or none, and the words of the cells.
+pub(crate) fn choice_of(words: &[String]) -> (LeastRow, &[String])
+    ensures choice { result.0 ≡ (choice_of (texts words.now)).0 }
+    ensures cells { texts result.1.now ≡ (choice_of (texts words.now)).1 }
+{
+    match words {
+        [cells @ .., word] if word.as_str() == "--low" => (LeastRow::Lowest, cells),
+        _ => (LeastRow::First, words),
+    }
+}
+
+/// The row of the words TECH, SPICE, TOP and those of its cells, with this choice of each cell's row.
 pub fn row_of<'a>(
+    choice: LeastRow,
     tech: &'a str,
     spice: &'a str,
     top: &'a str,
     cells: &'a [String],
 ) -> Option<RowAsked<'a>>
-    ensures { result ≡ asked_row tech.now spice.now top.now (texts cells.now) }
+    ensures { result ≡ asked_row choice tech.now spice.now top.now (texts cells.now) }
 {
     if !tech.is_empty() && !spice.is_empty() && is_top(top, cells) && are_row_cells(cells) {
         Some(RowAsked {
@@ -130,6 +147,7 @@ pub fn row_of<'a>(
             spice,
             top,
             cells,
+            choice,
         })
     } else {
         None

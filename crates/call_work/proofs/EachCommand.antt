@@ -31,12 +31,12 @@ use Rattle.call_work.specs.declared.commands.ReadMaterial.TheVariants as held
 use Rattle.cell_inputs.specs.declared.style.Style.{Style}
 use Rattle.cell_inputs.specs.declared.style.Taps.{Taps}
 use Rattle.cell_inputs.specs.Inputs.{Inputs}
-use Rattle.cell_make.specs.Making as made
 use Rattle.cell_make.specs.Rows.{RowDrawn, RowCyclic, RowTall}
 use Rattle.cell_commands.specs.declared.verdict.CheckAnswer.TheVariants.{Accepted, Misread, Rejected}
 use Rattle.lef_read.specs.declared.differ.Differ.TheVariants as differ
 use Rattle.layout_commands.specs.Extract.{extracting}
 use Rattle.layout_commands.specs.declared.extraction.ExtractAnswer.TheVariants as answer
+use Rattle.cell_make.specs.CellOfRow as stop
 use Rattle.cell_make.specs.Rowed as rows
 use Rattle.cell_make.specs.declared.row_outcome.InputFault.TheVariants as input
 use Rattle.layout_commands.specs.Row.{rowing}
@@ -199,10 +199,10 @@ each_end Benching m end (tally, h, is) = told Benching is refl refl
 each_end Rowing m end (rows.Rowed made, h, is) = record { settled = rw is.status refl; files = inr (inr (inl (refl, is.status))) }
 each_end Rowing m end (rows.Refused before name (input.Spice f), h, is) = told Rowing is refl refl
 each_end Rowing m end (rows.Refused before name (input.Fold f), h, is) = told Rowing is refl refl
-each_end Rowing m end (rows.Stopped before inputs (made.Made row log routing xs), h, is) = absurd is
-each_end Rowing m end (rows.Stopped before inputs (made.Cyclic row log ring), h, is) = told Rowing is refl refl
-each_end Rowing m end (rows.Stopped before inputs (made.Tall row log routing), h, is) = told Rowing is refl refl
-each_end Rowing m end (rows.Stopped before inputs (made.Unfinished proved log), h, is) = told Rowing is refl refl
+each_end Rowing m end (rows.Stopped before inputs (stop.Cyclic row log ring), h, is) = told Rowing is refl refl
+each_end Rowing m end (rows.Stopped before inputs (stop.Tall row log routing), h, is) = told Rowing is refl refl
+each_end Rowing m end (rows.Stopped before inputs (stop.Unfinished proved log), h, is) = told Rowing is refl refl
+each_end Rowing m end (rows.Stopped before inputs (stop.Unwired row log tracks ring), h, is) = told Rowing is refl refl
 each_end Rowing m end (rows.Unabutted made fault, h, is) = told Rowing is refl refl
 each_end Agreeing m end (agreement.Agreed, h, is) = told Agreeing is refl refl
 each_end Agreeing m end (agreement.Differs (differ.Extract f), h, is) = told Agreeing is refl refl

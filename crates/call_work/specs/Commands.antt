@@ -227,7 +227,7 @@ WorksOn (read.Agreeing both) end = AgreesTo both end
 
 -- the statuses that the words or the files call for: a search alone is unfinished, a making alone, of one cell or of a
 -- row, meets a cycle or is too tall, a checked file or a layout alone is rejected, a GDSII file alone holds no
--- netlist, cells of a row alone do not stand side by side, and an abstract alone does not agree
+-- netlist, cells of a row alone can't be side by side, and an abstract alone does not agree
 abbrev pub settled_by : Kind → List Status
 settled_by Planning = status.Done ∷ status.Input ∷ status.Unfinished ∷ []
 settled_by Making = status.Done ∷ status.Input ∷ status.Cycle ∷ status.Unfinished ∷ status.TooTall ∷ []

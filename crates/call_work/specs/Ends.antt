@@ -53,7 +53,7 @@ abbrev pub EndsTo : Result Material Refusal → End → Type 0
 EndsTo (Ok m) end = WorksTo m.0 m.1 end
 EndsTo (Err e) end = end ≡ refused e
 
--- a call of a form over files that are told
+-- a call of a form over files that are shown
 abbrev pub CallsFor : Files → Option Form → End → Type 0
 CallsFor files form end = EndsTo (called files (gathered form)) end
 
@@ -82,7 +82,7 @@ outside_of form = status.WriteFault ∷ status.NoMemory ∷ file_statuses (read_
 abbrev pub is_status_of : Option Form → Status → Bool
 is_status_of form answer = is_among (settled_of form) answer || is_among (outside_of form) answer
 
--- the statuses that tell of the desk or of memory
+-- the statuses of the desk or of memory
 abbrev pub desk_statuses : List Status
 desk_statuses = status.ReadFault ∷ status.WriteFault ∷ status.NoMemory ∷ []
 

@@ -1,4 +1,4 @@
-// What a call reads, and the work on it; the work of a bench, which reads nothing, stands in a crate of its own.
+// What a call reads, and the work on it; the work of a bench, which reads nothing, is in a crate of its own.
 #![tactic(auto)]
 
 mod commands;

@@ -65,13 +65,13 @@ of_inputs Says inside inputs budget same is says = subst (λ (b : ℕ). Says inp
 
 pub found_arranges : (evidence : Evidence) (inputs : Inputs) (row : List Column) (certificate : Certificate) → IsFoundBy evidence inputs row certificate → IsArrangement row inputs.fingers
 found_arranges Log inputs row (held.Log found) is = is.first.arranges
-found_arranges Trails inputs row (held.Trails found) (nodes, is) = is.first.arranges
+found_arranges Trails inputs row (held.Trails found) is = is.first.arranges
 found_arranges Log inputs row (held.Trails found) is = absurd is
 found_arranges Trails inputs row (held.Log found) is = absurd is
 
 pub found_fits : (evidence : Evidence) (inputs : Inputs) (row : List Column) (certificate : Certificate) → IsFoundBy evidence inputs row certificate → CanBeWritten certificate
 found_fits Log inputs row (held.Log found) is = log.found_fits inputs row found is.certified
-found_fits Trails inputs row (held.Trails found) (nodes, is) =
+found_fits Trails inputs row (held.Trails found) is =
     let (k, of_k, some_k, certified) = is.certified in
     (k, some_k, certified.fits)
 found_fits Log inputs row (held.Trails found) is = absurd is
@@ -79,7 +79,7 @@ found_fits Trails inputs row (held.Log found) is = absurd is
 
 pub open_fits : (evidence : Evidence) (inputs : Inputs) (proved : ℕ) (certificate : Certificate) → IsOpenBy evidence inputs proved certificate → CanBeWritten certificate
 open_fits Log inputs proved (held.Log spent) is = log.spent_fits inputs.fingers inputs.tech.budget proved spent is.1
-open_fits Trails inputs proved (held.Trails spent) (nodes, is) =
+open_fits Trails inputs proved (held.Trails spent) is =
     let (k, of_k, some_k, fits) = is.fits in
     (k, some_k, fits)
 open_fits Log inputs proved (held.Trails spent) is = absurd is

@@ -14,10 +14,10 @@ use Rattle.row_state.specs.Start.{AreKinds, AreSomeKinds}
 use Rattle.channel_route.specs.declared.routing.Routing.{Routing}
 use Rattle.channel_route.specs.Routing.{IsLegal}
 use Rattle.log_check.proofs.SameKinds.{for_kinds}
-use Rattle.track_accept.specs.declared.accept.TracksProved.{TracksProved}
-use Rattle.track_accept.specs.declared.rejected.TextRejected.{TextRejected}
-use Rattle.track_accept.specs.declared.rejected.TextRejected.TheVariants as because
-use Rattle.track_accept.specs.Accepted.{IsAccepted, Rejects}
+use Rattle.track_check.specs.declared.accept.TracksProved.{TracksProved}
+use Rattle.track_check.specs.declared.rejected.TextRejected.{TextRejected}
+use Rattle.track_check.specs.declared.rejected.TextRejected.TheVariants as because
+use Rattle.track_check.specs.Accepted.{IsAccepted, Rejects}
 use Rattle.call_end.specs.declared.end.End.{End}
 use Rattle.call_end.specs.declared.status.Status.TheVariants as status
 use Rattle.call_end.specs.End.{reports}

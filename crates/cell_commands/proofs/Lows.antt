@@ -25,12 +25,13 @@ use Rattle.channel_route.specs.declared.routing.Routing.{Routing}
 use Rattle.spice_net.specs.declared.subckt.Subckt.{Subckt}
 use Rattle.track_log.specs.declared.certificate.TrackCertificate.{TrackCertificate}
 use Rattle.cell_inputs.specs.declared.style.Taps.{Taps}
-use Rattle.cell_inputs.specs.Inputs.{Inputs}
+use Rattle.cell_inputs.specs.Inputs.{AreInputs, Inputs}
 use Rattle.cell_make.specs.declared.draw_outcome.DrawOutcome.{DrawOutcome}
 use Rattle.cell_make.specs.declared.draw_outcome.DrawOutcome.TheVariants as came
-use Rattle.cell_make.specs.Low.{DrawsLow, IsLeast, IsLowest, IsTrackEnd, ProvesTracks, low_style}
+use Rattle.cell_make.specs.Low.{DrawsLow, HasFirstLeast, IsLeast, IsLowest, IsTrackEnd, ProvesTracks, low_style}
 use Rattle.cell_make.specs.Rows.{ComesAs, ComesFrom, DrawAnswer, IsThat, IsWired, RowDrawn, RowTall, row_answer}
 use Rattle.cell_make.proofs.LogFits as log
+pub use Rattle.cell_make.proofs.LowCell.{first_least, first_there}
 use Rattle.cell_make.proofs.LowDrawn.{first_draws, lowest_draws, none_draws}
 use Rattle.cell_commands.specs.declared.certificate.Certificate.{Certificate}
 use Rattle.cell_commands.specs.declared.certificate.Certificate.TheVariants as held
@@ -59,16 +60,16 @@ found_for evidence inputs row certificate is = subst (λ (e : Evidence). IsFound
 
 pub found_first : (evidence : Evidence) (inputs : Inputs) (row : List Column) (certificate : Certificate) → IsFoundBy evidence inputs row certificate → IsFirstLeast inputs.fingers row
 found_first Log inputs row (held.Log found) is = is.first
-found_first Trails inputs row (held.Trails found) (nodes, is) = is.first
+found_first Trails inputs row (held.Trails found) is = is.first
 found_first Log inputs row (held.Trails found) is = absurd is
 found_first Trails inputs row (held.Log found) is = absurd is
 
-pub first_least : (inputs : Inputs) (row : List Column) → IsFirstLeast inputs.fingers row → IsLeast inputs.fingers row
-first_least inputs row first = record { arranges = first.arranges; least = first.least }
+pub found_there : (inputs : Inputs) (certificate : Certificate) → AreInputs inputs → IsFoundForSome inputs certificate → HasFirstLeast inputs
+found_there inputs certificate are (row, is) = first_there inputs row are (found_first (kind_of certificate) inputs row certificate is)
 
 pub found_certified : (evidence : Evidence) (inputs : Inputs) (row : List Column) (certificate : Certificate) → IsFoundBy evidence inputs row certificate → IsCertifiedBy evidence inputs row certificate
 found_certified Log inputs row (held.Log found) is = is.certified
-found_certified Trails inputs row (held.Trails found) (nodes, is) = is.certified
+found_certified Trails inputs row (held.Trails found) is = is.certified
 found_certified Log inputs row (held.Trails found) is = absurd is
 found_certified Trails inputs row (held.Log found) is = absurd is
 
@@ -89,7 +90,7 @@ listed_by : (inputs : Inputs) (row other : List Column) (certificate : Certifica
 listed_by inputs row other (held.Log found) k best is least of_k some_k lists =
     let (version, solved) = is.certified in
     (version, solved_too component_value k inputs.fingers inputs.tech.budget found row other best of_k some_k solved least.arranges (same_gaps inputs row other (first_least inputs row is.first) least) lists)
-listed_by inputs row other (held.Trails found) k best (nodes, is) least of_k some_k lists =
+listed_by inputs row other (held.Trails found) k best is least of_k some_k lists =
     certified_too k inputs.fingers found row other best of_k some_k is.certified least.arranges (same_gaps inputs row other (first_least inputs row is.first) least) lists
 
 pub relisted_certified : (inputs : Inputs) (row other : List Column) (certificate relisted : Certificate) → IsFoundFor inputs row certificate → IsLeast inputs.fingers other → ListsInstead inputs other certificate relisted → IsCertifiedBy (kind_of certificate) inputs other relisted
@@ -122,37 +123,37 @@ pub evidence_of : (inside inputs : Inputs) (out : List ℕ) (certificate : Certi
 evidence_of inside inputs out certificate tracks told same is = subst (λ (i : Inputs). told ≡ low_evidence i.cell out certificate tracks) same is
 
 -- a row that is drawn, or too tall, or has a ring where no least row is wired
-row_made : (evidence : Evidence) (taps : Taps) (inputs : Inputs) (out : List ℕ) (row : List Column) (certificate : Certificate) (tracks : TrackCertificate) (answer : DrawAnswer) (told : RowEvidence) (end : End) → told ≡ low_evidence inputs.cell out certificate tracks → ProvesTracks inputs tracks → IsCertifiedBy evidence inputs row certificate → DrawsLow (low_style taps) inputs row tracks answer → IsRowEnd (low_style taps) inputs out row told answer end → MakesLowTo evidence taps inputs out end
-row_made evidence taps inputs out row certificate tracks answer told end is proves certified draws ends =
-    (Made row certificate tracks answer, (proves, certified, draws), subst (λ (t : RowEvidence). IsRowEnd (low_style taps) inputs out row t answer end) is ends)
+row_made : (evidence : Evidence) (taps : Taps) (inputs : Inputs) (out : List ℕ) (row : List Column) (certificate : Certificate) (tracks : TrackCertificate) (answer : DrawAnswer) (told : RowEvidence) (end : End) → told ≡ low_evidence inputs.cell out certificate tracks → ProvesTracks inputs tracks → IsCertifiedBy evidence inputs row certificate → HasFirstLeast inputs → DrawsLow (low_style taps) inputs row tracks answer → IsRowEnd (low_style taps) inputs out row told answer end → MakesLowTo evidence taps inputs out end
+row_made evidence taps inputs out row certificate tracks answer told end is proves certified there draws ends =
+    (Made row certificate tracks answer, (proves, certified, there, draws), subst (λ (t : RowEvidence). IsRowEnd (low_style taps) inputs out row t answer end) is ends)
 
-pub lowest_made : (evidence : Evidence) (taps : Taps) (inputs : Inputs) (out : List ℕ) (row drawn : List Column) (certificate : Certificate) (tracks : TrackCertificate) (routing : Routing) (came : DrawOutcome) (told : RowEvidence) (r : Result End NoMemory) → drawn ≡ row → told ≡ low_evidence inputs.cell out certificate tracks → ProvesTracks inputs tracks → IsCertifiedBy evidence inputs row certificate → IsLowest inputs row routing tracks.tracks → IsWired came → ComesAs (IsThat routing) (low_style taps) inputs row came → IfOk r (IsRowEnd (low_style taps) inputs out drawn told (row_answer came)) → IfOk r (MakesLowTo evidence taps inputs out)
-lowest_made evidence taps inputs out row drawn certificate tracks routing came told r same is proves certified lowest wired comes ends =
+pub lowest_made : (evidence : Evidence) (taps : Taps) (inputs : Inputs) (out : List ℕ) (row drawn : List Column) (certificate : Certificate) (tracks : TrackCertificate) (routing : Routing) (came : DrawOutcome) (told : RowEvidence) (r : Result End NoMemory) → drawn ≡ row → told ≡ low_evidence inputs.cell out certificate tracks → ProvesTracks inputs tracks → IsCertifiedBy evidence inputs row certificate → HasFirstLeast inputs → IsLowest inputs row routing tracks.tracks → IsWired came → ComesAs (IsThat routing) (low_style taps) inputs row came → IfOk r (IsRowEnd (low_style taps) inputs out drawn told (row_answer came)) → IfOk r (MakesLowTo evidence taps inputs out)
+lowest_made evidence taps inputs out row drawn certificate tracks routing came told r same is proves certified there lowest wired comes ends =
     IfOk-weaker r (IsRowEnd (low_style taps) inputs out row told (row_answer came)) (MakesLowTo evidence taps inputs out)
-    (λ end e. row_made evidence taps inputs out row certificate tracks (row_answer came) told end is proves certified (lowest_draws (low_style taps) inputs row tracks routing came lowest wired comes) e)
+    (λ end e. row_made evidence taps inputs out row certificate tracks (row_answer came) told end is proves certified there (lowest_draws (low_style taps) inputs row tracks routing came lowest wired comes) e)
     (subst (λ (columns : List Column). IfOk r (IsRowEnd (low_style taps) inputs out columns told (row_answer came))) same ends)
 
 -- the first row, by why the search for the lowest one is open
-first_made : (evidence : Evidence) (taps : Taps) (inputs : Inputs) (out : List ℕ) (row : List Column) (certificate : Certificate) (tracks : TrackCertificate) (none_wired : Bool) (of : DrawOutcome) (told : RowEvidence) (end : End) → told ≡ low_evidence inputs.cell out certificate tracks → ProvesTracks inputs tracks → IsTrackEnd inputs tracks none_wired → IsFoundBy evidence inputs row certificate → ComesFrom (low_style taps) inputs row of → IsFirstEnd (low_style taps) inputs out row told tracks.tracks none_wired (row_answer of) end → MakesLowTo evidence taps inputs out end
-first_made evidence taps inputs out row certificate tracks true of told end is proves none found comes ends =
-    row_made evidence taps inputs out row certificate tracks (row_answer of) told end is proves (found_certified evidence inputs row certificate found)
+first_made : (evidence : Evidence) (taps : Taps) (inputs : Inputs) (out : List ℕ) (row : List Column) (certificate : Certificate) (tracks : TrackCertificate) (none_wired : Bool) (of : DrawOutcome) (told : RowEvidence) (end : End) → told ≡ low_evidence inputs.cell out certificate tracks → ProvesTracks inputs tracks → HasFirstLeast inputs → IsTrackEnd inputs tracks none_wired → IsFoundBy evidence inputs row certificate → ComesFrom (low_style taps) inputs row of → IsFirstEnd (low_style taps) inputs out row told tracks.tracks none_wired (row_answer of) end → MakesLowTo evidence taps inputs out end
+first_made evidence taps inputs out row certificate tracks true of told end is proves there none found comes ends =
+    row_made evidence taps inputs out row certificate tracks (row_answer of) told end is proves (found_certified evidence inputs row certificate found) there
     (none_draws (low_style taps) inputs row tracks of (found_first evidence inputs row certificate found) none comes) ends
-first_made evidence taps inputs out row certificate tracks false (came.Drawn placement routing drawn) told end is proves spent found comes ends =
-    row_made evidence taps inputs out row certificate tracks (RowDrawn routing drawn.lines) told end is proves (found_certified evidence inputs row certificate found)
+first_made evidence taps inputs out row certificate tracks false (came.Drawn placement routing drawn) told end is proves there spent found comes ends =
+    row_made evidence taps inputs out row certificate tracks (RowDrawn routing drawn.lines) told end is proves (found_certified evidence inputs row certificate found) there
     (first_draws (low_style taps) inputs row tracks (came.Drawn placement routing drawn) (found_first evidence inputs row certificate found) (inr spent) tt comes) ends
-first_made evidence taps inputs out row certificate tracks false (came.Tall placement routing needed given) told end is proves spent found comes ends =
-    row_made evidence taps inputs out row certificate tracks (RowTall routing) told end is proves (found_certified evidence inputs row certificate found)
+first_made evidence taps inputs out row certificate tracks false (came.Tall placement routing needed given) told end is proves there spent found comes ends =
+    row_made evidence taps inputs out row certificate tracks (RowTall routing) told end is proves (found_certified evidence inputs row certificate found) there
     (first_draws (low_style taps) inputs row tracks (came.Tall placement routing needed given) (found_first evidence inputs row certificate found) (inr spent) tt comes) ends
-first_made evidence taps inputs out row certificate tracks false (came.Cyclic placement ring) told end is proves spent found comes ends = (
+first_made evidence taps inputs out row certificate tracks false (came.Cyclic placement ring) told end is proves there spent found comes ends = (
   Unwired row certificate tracks ring,
   (proves, spent, found, comes.draws),
   subst (λ (t : RowEvidence). IsEnd status.Unfinished t.files (first_line status.Unfinished ++ fewest_text tracks.tracks ++ ring_text inputs.cell.nets ring) end) is ends,
 )
 
-pub first_ends : (evidence : Evidence) (taps : Taps) (inputs : Inputs) (out : List ℕ) (row : List Column) (certificate : Certificate) (tracks : TrackCertificate) (none_wired : Bool) (of : DrawOutcome) (told : RowEvidence) (r : Result End NoMemory) → told ≡ low_evidence inputs.cell out certificate tracks → ProvesTracks inputs tracks → IsTrackEnd inputs tracks none_wired → IsFoundBy evidence inputs row certificate → ComesFrom (low_style taps) inputs row of → IfOk r (IsFirstEnd (low_style taps) inputs out row told tracks.tracks none_wired (row_answer of)) → IfOk r (MakesLowTo evidence taps inputs out)
-first_ends evidence taps inputs out row certificate tracks none_wired of told r is proves end_of found comes ends =
+pub first_ends : (evidence : Evidence) (taps : Taps) (inputs : Inputs) (out : List ℕ) (row : List Column) (certificate : Certificate) (tracks : TrackCertificate) (none_wired : Bool) (of : DrawOutcome) (told : RowEvidence) (r : Result End NoMemory) → told ≡ low_evidence inputs.cell out certificate tracks → ProvesTracks inputs tracks → HasFirstLeast inputs → IsTrackEnd inputs tracks none_wired → IsFoundBy evidence inputs row certificate → ComesFrom (low_style taps) inputs row of → IfOk r (IsFirstEnd (low_style taps) inputs out row told tracks.tracks none_wired (row_answer of)) → IfOk r (MakesLowTo evidence taps inputs out)
+first_ends evidence taps inputs out row certificate tracks none_wired of told r is proves there end_of found comes ends =
     IfOk-weaker r (IsFirstEnd (low_style taps) inputs out row told tracks.tracks none_wired (row_answer of)) (MakesLowTo evidence taps inputs out)
-    (λ end e. first_made evidence taps inputs out row certificate tracks none_wired of told end is proves end_of found comes e) ends
+    (λ end e. first_made evidence taps inputs out row certificate tracks none_wired of told end is proves there end_of found comes e) ends
 
 -- ---- without a row
 

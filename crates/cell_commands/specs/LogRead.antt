@@ -47,7 +47,7 @@ abbrev pub SeesMore : Checked → List LogItem → Checked → Type 0
 SeesMore before items after =
     (log : Log) → HasSeenLog before log → HasSeenLog after (with_items log items)
 
--- Some bytes brought a reader and a checker from where they stood to where they stand. After a fault of the text
+-- Some bytes brought a reader and a checker from where they were to where they are. After a fault of the text
 -- the checker counts for nothing.
 pub record AreBehind (from : Reader) (before : Checked) (bytes : List ℕ) (to : Reader) (after : Checked) : Type 0 where
   pub reader : to ≡ (tale_of from bytes).reader
@@ -69,7 +69,7 @@ pub record AreBegun (inputs : Inputs) (reader : Reader) (checker : Checked) : Ty
   pub fingers : checker.fingers ≡ inputs.fingers
   pub lemmas : checker.lemmas ≡ 0
 
--- what all the bytes of a log tell, for these kinds
+-- what all the bytes of a log say, for these kinds
 abbrev pub whole_tale : Inputs → List ℕ → Kinds → Tale
 whole_tale inputs bytes k = tale_of (begun inputs.cell.name k) bytes
 

@@ -15,7 +15,7 @@ use Rattle.call_words.specs.declared.evidence.Evidence.{Evidence}
 use Rattle.cell_inputs.specs.declared.style.Style.{Style}
 use Rattle.cell_inputs.specs.declared.style.Taps.{Taps}
 use Rattle.cell_inputs.specs.Inputs.{Inputs}
-use Rattle.cell_make.specs.Low.{DrawsLow, IsTrackSpent, ProvesTracks, low_style}
+use Rattle.cell_make.specs.Low.{DrawsLow, HasFirstLeast, IsTrackSpent, ProvesTracks, low_style}
 use Rattle.cell_make.specs.Rows.{DrawAnswer}
 use Rattle.cell_make.specs.Style.{IsToldRing}
 use Rattle.cell_report.specs.Cells.{fewest_text}
@@ -51,14 +51,15 @@ pub data LowAnswer : Type 0 where
   Crowded : (gate : NetNo) → LowAnswer
 
 -- A certificate proves how many tracks each least row takes at least, and one of the two:
--- - the row has a certificate that is accepted and lists it, and drawing it results in this: the lowest row, or the
---   first least one where the search for the lowest row is open;
--- - the budget of that search is spent, and nets of the first least row stand above each other in this ring.
+-- - the row has a certificate that is accepted and lists it, there is a first least row, and drawing the row results in
+--   this: the lowest row, or the first least one where the search for the lowest row is open;
+-- - the budget of that search is spent, and nets of the first least row are above each other in this cycle.
 -- Or a certificate proves that many gaps of every row, or the fingers of a gate pair in too many ways.
 abbrev pub MakesLow : Evidence → Style → Inputs → LowAnswer → Type 0
 MakesLow evidence style inputs (Made row certificate tracks answer) =
     ProvesTracks inputs tracks
     × IsCertifiedBy evidence inputs row certificate
+    × HasFirstLeast inputs
     × DrawsLow style inputs row tracks answer
 MakesLow evidence style inputs (Unwired row certificate tracks ring) =
     ProvesTracks inputs tracks
@@ -68,7 +69,7 @@ MakesLow evidence style inputs (Unwired row certificate tracks ring) =
 MakesLow evidence style inputs (Open proved certificate) = IsOpenBy evidence inputs proved certificate
 MakesLow evidence style inputs (Crowded gate) = Crowds evidence inputs gate
 
--- the evidence, without a drawing: how many tracks each least row takes at least, and the ring of the first one
+-- the evidence, without a drawing: how many tracks each least row takes at least, and the cycle of the first one
 abbrev pub IsUnwiredEnd : Inputs → List ℕ → Certificate → TrackCertificate → Ring → End → Type 0
 IsUnwiredEnd inputs out certificate tracks ring =
     IsEnd status.Unfinished (low_evidence inputs.cell out certificate tracks).files

@@ -12,7 +12,7 @@ use Rattle.cell_report.specs.Cells.{fewest_text}
 use Rattle.cell_report.specs.Cycles.{ring_text}
 use Rattle.cell_commands.specs.RowEnd.{IsRowEnd, RowEvidence}
 
--- As of any row. But a ring leaves the search unfinished, unless no least row is wired.
+-- As of any row. But a cycle leaves the search unfinished, unless no least row is wired.
 abbrev pub IsFirstEnd : Style → Inputs → List ℕ → List Column → RowEvidence → ℕ → Bool → DrawAnswer → End → Type 0
 IsFirstEnd style inputs out row evidence fewest true answer = IsRowEnd style inputs out row evidence answer
 IsFirstEnd style inputs out row evidence fewest false (RowCyclic ring) =

@@ -29,7 +29,7 @@ abbrev pub listing : Certificate → Best → Certificate
 listing (held.Log log) best = held.Log (log_listing log best)
 listing (held.Trails trails) best = held.Trails (trails_listing trails best)
 
--- the other certificate is the same but for the row that it lists, which is this one
+-- the other certificate is the same except the row that it lists, which is this one
 abbrev pub ListsInstead : Inputs → List Column → Certificate → Certificate → Type 0
 ListsInstead inputs row certificate other =
     WithKinds inputs.fingers (λ k. (best : Best) × IsBestOf k row best × (other ≡ listing certificate best))

@@ -16,12 +16,11 @@ use Rattle.trail_search.specs.Ended.{IsCertified as IsCertifiedByTrails, IsCrowd
 
 -- the certificate by trails is accepted and lists the row, and was found within the budget
 abbrev pub IsFoundByTrails : Inputs → List Column → TrailCertificate → Type 0
-IsFoundByTrails inputs row trails = (nodes : ℕ) × IsTrailFound inputs.fingers inputs.tech.budget row trails nodes
+IsFoundByTrails inputs row trails = IsTrailFound inputs.fingers inputs.tech.budget row trails
 
 -- its lemmas are justified, and prove that many gaps of every row; the budget is spent, or no row has as few
 abbrev pub IsOpenByTrails : Inputs → ℕ → TrailCertificate → Type 0
-IsOpenByTrails inputs proved trails =
-    (nodes : ℕ) × IsTrailSpent inputs.fingers inputs.tech.budget trails proved nodes
+IsOpenByTrails inputs proved trails = IsTrailSpent inputs.fingers inputs.tech.budget trails proved
 
 -- the row is the first least one, with a certificate of this kind that is accepted and lists it, found within the
 -- budget

@@ -121,7 +121,7 @@ fn given_end(
     }
 }
 
-/// The drawing of the row that a log lists, which is after the bytes of its file; or a ring of the row's nets, or a
+/// The drawing of the row that a log lists, which is after the bytes of its file; or a cycle of the row's nets, or a
 /// height that is not enough; or the end of a check that does not accept the log.
 pub fn make_from_log(
     alloc: Global,

@@ -21,7 +21,7 @@ use row_state::{Kinds, LogBound};
 use std::alloc::Global;
 use std::marker::Model;
 
-/// A checker of logs of any version: the head of a log tells by which bound its lemmas are checked.
+/// A checker of logs of any version: the head of a log says by which bound its lemmas are checked.
 #[derive(Drop)]
 pub struct LogChecker {
     checker: Checker<LogBound>,

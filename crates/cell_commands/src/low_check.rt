@@ -12,7 +12,7 @@ use cell_num::{MOST_BYTES, Name, NoMemory};
 use cell_report::{put_low_checked, put_track_refusal};
 use row_state::{Component, kinds};
 use std::alloc::Global;
-use track_accept::{TextRejected, TracksProved, check_text};
+use track_check::{TextRejected, TracksProved, check_text};
 
 fn accepted_end(alloc: Global, name: &Name, proved: TracksProved) -> Result<End, NoMemory>
     ensures { IfOk result (λ end.

@@ -25,7 +25,7 @@ pub(crate) fn row_of(came: &DrawOutcome) -> &Arrangement
 }
 
 /// The end of the first least row where the search for the lowest one is open: its drawing; or its evidence alone, with
-/// a height that is not enough, or with a ring of its nets. Unless no least row is wired, the ring leaves the search
+/// a height that is not enough, or with a cycle of its nets. Unless no least row is wired, the cycle leaves the search
 /// unfinished.
 pub(crate) fn first_end(
     alloc: Global,

@@ -151,7 +151,7 @@ pub(crate) fn evidence_end(status: Status, files: OutputList, report: Bytes) -> 
     End::makes(status, files, report)
 }
 
-/// The end of a row: its drawing; or its evidence alone, with a ring of its nets or a height that is not enough.
+/// The end of a row: its drawing; or its evidence alone, with a cycle of its nets or a height that is not enough.
 pub(crate) fn row_end(
     alloc: Global,
     inputs: &Inputs,

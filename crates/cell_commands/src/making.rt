@@ -54,7 +54,7 @@ pub(crate) fn open_end(
     Ok(evidence_end(Status::Unfinished, evidence.files, report))
 }
 
-/// The drawing of the first least row with its evidence; or the evidence, with a ring of the row's nets, with a height
+/// The drawing of the first least row with its evidence; or the evidence, with a cycle of the row's nets, with a height
 /// that is not enough, or of a search that spent its budget; or a gate whose fingers pair in too many ways.
 pub fn make(
     alloc: Global,

@@ -54,7 +54,7 @@ fn by_trails(alloc: Global, inputs: &Inputs) -> Result<Searched, NoMemory>
             row: found.row,
             certificate: Certificate::Trails(found.trails),
         }),
-        Err(TrailStop::Unfinished { trails, proved, .. }) => Ok(Searched::Open {
+        Err(TrailStop::Unfinished { trails, proved }) => Ok(Searched::Open {
             certificate: Certificate::Trails(trails),
             proved,
         }),

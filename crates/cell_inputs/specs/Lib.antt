@@ -1,3 +1,3 @@
--- What contracts of public calls cite, and what these definitions stand on.
+-- What contracts of public calls cite, and what these definitions use.
 pub mod Inputs
 pub mod Style

@@ -5,4 +5,4 @@ pub mod inputs;
 pub mod style;
 
 pub use inputs::Inputs;
-pub use style::{Style, Taps, Wiring};
+pub use style::{LeastRow, Style, Taps, Wiring};

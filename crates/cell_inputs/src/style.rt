@@ -17,6 +17,15 @@ pub enum Taps {
     With,
 }
 
+/// Which of the rows with the fewest columns and the fewest gaps a cell is drawn with.
+#[derive(Clone, Copy, Debug, PartialEq, Eq)]
+pub enum LeastRow {
+    /// The first one.
+    First,
+    /// The first one on the fewest tracks.
+    Lowest,
+}
+
 /// How a cell is made of its inputs.
 #[derive(Clone, Copy, Debug, PartialEq, Eq)]
 pub struct Style {

@@ -16,6 +16,8 @@ mod WithLog
 mod Wirings
 pub mod Apart
 pub mod Beside
+pub mod CellBy
+pub mod LowCell
 pub mod Decoded
 pub mod Library
 pub mod Made

@@ -17,17 +17,18 @@ use Rattle.row_place.proofs.Placed.{placement_is}
 use Rattle.channel_route.specs.declared.routing.Routing.{Routing}
 use Rattle.channel_route.specs.Routing.{IsLegal}
 use Rattle.first_route.specs.First.{IsFirstRouting}
-use Rattle.track_lemmas.specs.declared.lemma.TrackLemma.{TrackLemma}
+use Rattle.track_ways.specs.declared.lemma.TrackLemma.{TrackLemma}
 use Rattle.track_log.specs.declared.certificate.TrackCertificate.{TrackCertificate}
 use Rattle.track_log.specs.Fits.{LemmaFits}
 use Rattle.track_search.specs.Fewest.{Prove, TakeAtLeast as AllTake}
-use Rattle.lowest_row.specs.declared.lowest.Lowest.{Lowest}
-use Rattle.lowest_row.specs.declared.lowest.Lowest.TheVariants as ended
-use Rattle.lowest_row.specs.Lowest.{Arranges, IfFound, IsBudgetSpent, IsFirstLow, IsOpen, least_of, lemmas_of}
+use Rattle.track_search.specs.Kept.{IsKeptWithin}
+use Rattle.track_search.specs.declared.lowest.Lowest.{Lowest}
+use Rattle.track_search.specs.declared.lowest.Lowest.TheVariants as ended
+use Rattle.track_search.specs.Lowest.{Arranges, IfFound, IsBudgetSpent, IsFirstLow, IsOpen, least_of, lemmas_of}
 use Rattle.cell_draw.proofs.NetsNamed.{place_low}
 use Rattle.cell_inputs.specs.Inputs.{AreInputs, Inputs}
 use Rattle.cell_make.specs.declared.low_planned.LowPlanned.{LowPlanned}
-use Rattle.cell_make.specs.Low.{IsLeast, IsLowPlanned, IsLowest, IsTrackEnd, IsTrackSpent, NoneIsWired, ProvesTracks, TakeAtLeast}
+use Rattle.cell_make.specs.Low.{IsLeast, IsLowPlanned, IsLowest, IsTrackEnd, IsTrackSpent, NoneIsWired, ProvesNoneIsWired, ProvesTracks, TakeAtLeast}
 use Rattle.cell_make.specs.LowEnded.{planned_by}
 use Rattle.cell_make.proofs.FewTracks.{acyclic, few_tracks}
 use Rattle.cell_make.proofs.Makes.{few_columns, sound_row}
@@ -55,7 +56,7 @@ other_case : (X : Type 0) (a b : ℕ) → (a == b) ≡ false → (a ≡ b) ⊎ X
 other_case X a b differ (inl same) = absurd (one_truth (a == b) ((Decides-eqb a b).1 same) differ)
 other_case X a b differ (inr x) = x
 
-track_end : (inputs : Inputs) (certificate : TrackCertificate) (none : Bool) → (none ≡ true → NoneIsWired inputs) → (none ≡ false → IsTrackSpent inputs certificate) → IsTrackEnd inputs certificate none
+track_end : (inputs : Inputs) (certificate : TrackCertificate) (none : Bool) → (none ≡ true → ProvesNoneIsWired inputs certificate) → (none ≡ false → IsTrackSpent inputs certificate) → IsTrackEnd inputs certificate none
 track_end inputs certificate true all spent = all refl
 track_end inputs certificate false all spent = spent refl
 
@@ -74,6 +75,7 @@ pub record IsEnd (inputs : Inputs) (k : Kinds) (gaps budget : ℕ) (lowest : Low
   pub routing : IfFound (λ p r. IsFirstRouting p inputs.cell.pins r.tracks r) lowest
   pub certified : Prove component_value inputs.cell.pins k gaps (least_of lowest) (lemmas_of lowest)
   pub fits : gaps ≤ 63 → inputs.fingers.nets ≤ 256 → All (LemmaFits k) (lemmas_of lowest)
+  pub kept : IsKeptWithin component_value inputs.cell.pins k gaps (least_of lowest) budget (lemmas_of lowest)
   pub most : least_of lowest ≤ inputs.fingers.nets
   pub spent : IsOpen component_value inputs.cell.pins k gaps inputs.fingers.nets budget lowest
 
@@ -88,13 +90,14 @@ module _ (inputs : Inputs) (k : Kinds) (gaps : ℕ) (row : List Column) (are : A
   certificate_of : ℕ → List TrackLemma → TrackCertificate
   certificate_of tracks lemmas = record { gaps = gaps; tracks = tracks; lemmas = lemmas }
 
-  proves : (tracks : ℕ) (lemmas : List TrackLemma) → AllTake inputs.cell.pins k gaps tracks → Prove component_value inputs.cell.pins k gaps tracks lemmas → (gaps ≤ 63 → inputs.fingers.nets ≤ 256 → All (LemmaFits k) lemmas) → tracks ≤ inputs.fingers.nets → ProvesTracks inputs (certificate_of tracks lemmas)
+  proves : (tracks : ℕ) (lemmas : List TrackLemma) → AllTake inputs.cell.pins k gaps tracks → Prove component_value inputs.cell.pins k gaps tracks lemmas → (gaps ≤ 63 → inputs.fingers.nets ≤ 256 → All (LemmaFits k) lemmas) → IsKeptWithin component_value inputs.cell.pins k gaps tracks inputs.tech.budget lemmas → tracks ≤ inputs.fingers.nets → ProvesTracks inputs (certificate_of tracks lemmas)
   unfolding certificate_of
-  proves tracks lemmas fewest certified fits most = record {
+  proves tracks lemmas fewest certified fits kept most = record {
     gaps = λ other least. omega (arith, same, is.least other least.arranges, least.least row is.arranges);
     least = takes tracks fewest;
     certified = (k, kinds, some, certified);
     fits = λ one. (k, kinds, some, record { gaps = few; some = one; few = omega (arith, most, are.fingers.few_nets); lemmas = fits few are.fingers.few_nets });
+    within = (k, kinds, some, kept);
   }
     where
       few : gaps ≤ 63
@@ -118,12 +121,12 @@ module _ (inputs : Inputs) (k : Kinds) (gaps : ℕ) (row : List Column) (are : A
   planned (ended.Found placement routing lemmas) h = (
     h.placed,
     lowest_is placement routing h.arranges h.placed h.legal h.fewest h.first h.routing,
-    proves routing.tracks lemmas h.fewest h.certified h.fits h.most,
+    proves routing.tracks lemmas h.fewest h.certified h.fits h.kept h.most,
   )
   planned (ended.Open proved lemmas) h = (
-    proves proved lemmas h.fewest h.certified h.fits h.most,
+    proves proved lemmas h.fewest h.certified h.fits h.kept h.most,
     track_end inputs (certificate_of proved lemmas) (proved == inputs.fingers.nets)
-        (λ all. none_wired inputs proved are ((Decides-eqb proved inputs.fingers.nets).0 all) (takes proved h.fewest))
+        (λ all. let as_many : proved ≡ inputs.fingers.nets = (Decides-eqb proved inputs.fingers.nets).0 all in record { none = none_wired inputs proved are as_many (takes proved h.fewest); tracks = as_many })
         (λ some_left. (k, kinds, some, other_case (IsBudgetSpent component_value inputs.cell.pins k gaps proved inputs.tech.budget) proved inputs.fingers.nets some_left h.spent)),
   )
 

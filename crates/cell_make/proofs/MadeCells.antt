@@ -1,5 +1,5 @@
 -- A made cell is one that stands in a row.
-use Rattle.std.proofs.Common.{ℕ, ◌≡◌, ◌≢◌, ◌+◌, ◌<◌, ◌≤◌, length, ℤ, pos, ◌≤ℤ◌, ◌-ℤ◌, List, ◌∷◌, All, refl, ap, sym, subst, ◌∙◌, arith}
+use Rattle.std.proofs.Common.{ℕ, ◌≡◌, ◌≢◌, ◌+◌, ◌<◌, ◌≤◌, length, ℤ, pos, ◌≤ℤ◌, ◌-ℤ◌, List, ◌∷◌, All, inl, inr, refl, ap, sym, subst, ◌∙◌, arith}
 use Rattle.std.proofs.lemmas.Int.{ints}
 use Rattle.std.proofs.lemmas.List.Elements.{All-head, All-weaker}
 use Rattle.box_geom.specs.declared.shape.Label.{Label}
@@ -13,18 +13,21 @@ use Rattle.cell_draw.specs.declared.drawing.Drawing.{Drawing}
 use Rattle.cell_draw.specs.declared.layout.Frame.{Frame}
 use Rattle.cell_inputs.specs.Inputs.{AreInputs, Inputs, unit_nm}
 use Rattle.cell_inputs.specs.Style.{plain_style}
+use Rattle.cell_inputs.specs.declared.style.LeastRow.{LeastRow}
+use Rattle.cell_inputs.specs.declared.style.LeastRow.TheVariants.{First, Lowest}
 use Rattle.cell_num.specs.declared.net.Pins.{Pins}
 use Rattle.bound_log.specs.declared.log.Log.{Log}
 use Rattle.cell_draw.specs.declared.cell.TheConstants.{MOST_SHAPES}
+use Rattle.cell_make.proofs.DrawnAs.{drawn_as}
 use Rattle.cell_make.proofs.Finals.{final_is}
 use Rattle.cell_make.proofs.Makes.{few_columns, placed_row}
 use Rattle.channel_route.proofs.LegalWiring.{legal_wiring}
-use Rattle.cell_make.specs.Extent.{HasExtent, LiesInFrame, frame_in}
-use Rattle.cell_make.specs.Making.{CanBeWritten, ComesTo}
+use Rattle.cell_make.specs.Extent.{HasExtent, frame_in}
+use Rattle.cell_make.specs.Low.{IsLowRouted}
+use Rattle.cell_make.specs.Making.{IsDrawnAs, IsRouted, drawing_in, final_of}
+use Rattle.cell_make.specs.Style.{tapped_by}
 use Rattle.cell_make.specs.declared.drawn.Drawn.{Drawn}
-use Rattle.cell_inputs.specs.declared.style.Style.{Style}
-use Rattle.cell_make.specs.declared.outcome.Outcome.{Outcome}
-use Rattle.cell_make.specs.declared.outcome.Outcome.TheVariants as outcome
+use Rattle.channel_route.specs.Routing.{IsLegal}
 use Rattle.channel_route.specs.Wiring.{IsWiring}
 use Rattle.channel_route.specs.declared.routing.Routing.{Routing}
 use Rattle.gds_read.specs.RoundTrip.{IsReadable}
@@ -36,30 +39,65 @@ use Rattle.cell_make.proofs.Rails.{rails_named}
 use Rattle.cell_draw.proofs.TrunkCount.{few_tracks}
 use Rattle.cell_draw.proofs.BridgeRow.{widths}
 use Rattle.cell_make.specs.RowInputs.{RowInputs}
-use Rattle.cell_make.specs.Rowed.{AreInputsOf, IsMadeCell, IsOneByName, MadeCell, cell_drawing, cell_frame, row_cell}
+use Rattle.cell_make.specs.CellOfRow.{IsMadeBy}
+use Rattle.cell_make.specs.Rowed.{IsMadeCell, IsOneByName, MadeCell, cell_drawing, cell_frame, row_cell}
 use Rattle.cell_make.specs.RowSteps.{IsSoundCell}
+use Rattle.row_model.specs.declared.column.Column.{Column}
+use Rattle.row_model.specs.Arrangement.{IsArrangement}
 use Rattle.row_place.proofs.Placed.{placement_is}
 use Rattle.row_place.specs.Places.{IsPlacement, placement_of}
 use Rattle.row_place.specs.declared.placement.Placement.{Placement}
 use Rattle.tech_file.specs.Technology.{IsTechnology}
+use Rattle.track_log.specs.declared.certificate.TrackCertificate.{TrackCertificate}
 use Rattle.well_tap.proofs.Drawn.{rails_drawn}
 use Rattle.well_tap.specs.Bodied.{AreRails}
 
--- a made cell, and what holds of it besides
+-- ---- a made cell, whichever of its rows it has
+
+-- an arrangement of the fingers is drawn on a legal routing
+pub record IsStanding (m : MadeCell) : Type 0 where
+  pub arranges : IsArrangement m.row m.inputs.fingers
+  pub drawn : IsDrawnAs (IsLegal (placement_of m.row) m.inputs.cell.pins m.routing) plain_style m.inputs m.row m.routing m.lines
+  pub sound : IsSoundCell m
+
+low_arranges : (inputs : Inputs) (row : List Column) (tracks : TrackCertificate) (routing : Routing) → IsLowRouted plain_style inputs row tracks routing → IsArrangement row inputs.fingers
+low_arranges inputs row tracks routing (inl h) = h.least.arranges
+low_arranges inputs row tracks routing (inr h) = h.first.arranges
+
+low_legal : (inputs : Inputs) (row : List Column) (tracks : TrackCertificate) (routing : Routing) → IsLowRouted plain_style inputs row tracks routing → IsLegal (placement_of row) inputs.cell.pins routing
+low_legal inputs row tracks routing (inl h) = h.legal
+low_legal inputs row tracks routing (inr h) = h.routed.legal
+
+pub stands_by : (choice : LeastRow) (m : MadeCell) → IsMadeBy choice m.inputs m.row m.log m.routing m.lines → IsSoundCell m → IsStanding m
+stands_by First m made sound = record {
+  arranges = made.found.first.arranges;
+  drawn = drawn_as (IsRouted plain_style m.inputs m.row m.routing) (IsLegal (placement_of m.row) m.inputs.cell.pins m.routing) plain_style m.inputs m.row m.routing m.lines (λ r. r.legal) made.drawn;
+  sound = sound;
+}
+stands_by Lowest m made sound = record {
+  arranges = low_arranges m.inputs m.row made.tracks m.routing made.drawn.routed;
+  drawn = drawn_as (IsLowRouted plain_style m.inputs m.row made.tracks m.routing) (IsLegal (placement_of m.row) m.inputs.cell.pins m.routing) plain_style m.inputs m.row m.routing m.lines (low_legal m.inputs m.row made.tracks m.routing) made.drawn;
+  sound = sound;
+}
+
+-- a made cell of a row, and what holds of it besides
 pub record IsReady (r : RowInputs) (m : MadeCell) : Type 0 where
   pub is : IsMadeCell r m
   pub sound : IsSoundCell m
 
+stands : (r : RowInputs) (m : MadeCell) → IsReady r m → IsStanding m
+stands r m h = stands_by r.choice m h.is.made h.sound
+
 -- ---- its row and its channel
 
-placed : (r : RowInputs) (m : MadeCell) → IsReady r m → IsPlacement (placement_of m.row)
-placed r m h = placement_is m.row h.is.made.found.first.arranges.columns (few_columns m.inputs m.row h.sound.inputs h.is.made.found.first.arranges)
+placed : (m : MadeCell) → IsStanding m → IsPlacement (placement_of m.row)
+placed m h = placement_is m.row h.arranges.columns (few_columns m.inputs m.row h.sound.inputs h.arranges)
 
-sound_row : (r : RowInputs) (m : MadeCell) → IsReady r m → IsSoundRow m.inputs.cell.nets m.inputs.cell.pins m.row
-sound_row r m h = placed_row m.inputs m.inputs m.row (placement_of m.row) refl h.sound.inputs h.is.made.found.first.arranges refl
+sound_row : (m : MadeCell) → IsStanding m → IsSoundRow m.inputs.cell.nets m.inputs.cell.pins m.row
+sound_row m h = placed_row m.inputs m.inputs m.row (placement_of m.row) refl h.sound.inputs h.arranges refl
 
-wired : (r : RowInputs) (m : MadeCell) → IsReady r m → IsWiring (placement_of m.row) m.inputs.cell.pins m.routing
-wired r m h = legal_wiring (placement_of m.row) m.inputs.cell.pins m.routing h.is.made.drawn.routed.legal
+wired : (m : MadeCell) → IsStanding m → IsWiring (placement_of m.row) m.inputs.cell.pins m.routing
+wired m h = legal_wiring (placement_of m.row) m.inputs.cell.pins m.routing h.drawn.routed
 
 -- ---- where it lies
 
@@ -96,11 +134,11 @@ in_row r m h =
 -- ---- what it is
 
 pub is_drawn : (r : RowInputs) (m : MadeCell) → IsReady r m → IsDrawn (row_cell m)
-is_drawn r m h = record { frame = cell_frame m; xs = m.lines; framed = h.sound.extent.framed; n = refl; p = refl; obeys = h.is.made.drawn.obeys }
+is_drawn r m h = record { frame = cell_frame m; xs = m.lines; framed = h.sound.extent.framed; n = refl; p = refl; obeys = (stands r m h).drawn.obeys }
 
-rails : (r : RowInputs) (m : MadeCell) → IsReady r m → AreRails m.inputs.cell.nets m.inputs.cell.pins (cell_drawing m)
-rails r m h =
-    rails_drawn m.inputs.cell.nets m.inputs.cell.pins (placement_of m.row) m.routing m.lines m.inputs.tech.height (placed r m h) (sound_row r m h) (wired r m h) h.is.made.drawn.lines.allowed h.sound.inputs.pins
+rails : (m : MadeCell) → IsStanding m → AreRails m.inputs.cell.nets m.inputs.cell.pins (cell_drawing m)
+rails m h =
+    rails_drawn m.inputs.cell.nets m.inputs.cell.pins (placement_of m.row) m.routing m.lines m.inputs.tech.height (placed m h) (sound_row m h) (wired m h) h.drawn.lines.allowed h.sound.inputs.pins
 
 differ : (r : RowInputs) (m : MadeCell) → IsTechnology r.tech → IsReady r m → vdd_name (row_cell m) ≢ gnd_name (row_cell m)
 differ r m tech h same =
@@ -108,7 +146,7 @@ differ r m tech h same =
     tech.rails_differ (sym named.vdd ∙ same ∙ named.gnd)
 
 pub is_circuit : (r : RowInputs) (m : MadeCell) → IsTechnology r.tech → IsReady r m → IsCircuit (row_cell m) m.inputs.fingers
-is_circuit r m tech h = record { extracts = h.is.made.drawn.extracts; rails = rails r m h; differ = differ r m tech h }
+is_circuit r m tech h = record { extracts = (stands r m h).drawn.extracts; rails = rails m (stands r m h); differ = differ r m tech h }
 
 -- ---- two of them
 
@@ -123,26 +161,24 @@ one_by_name a b h = record { one = λ same. ap row_cell (h.one same) }
 
 -- ---- what drawing it asks
 
-pub row_widths : (r : RowInputs) (m : MadeCell) → IsReady r m → All HasWidths m.row
-row_widths r m h = widths m.inputs.cell.nets m.inputs.cell.pins m.row (sound_row r m h)
+pub row_widths : (m : MadeCell) → IsStanding m → All HasWidths m.row
+row_widths m h = widths m.inputs.cell.nets m.inputs.cell.pins m.row (sound_row m h)
 
-pub low_tracks : (r : RowInputs) (m : MadeCell) → IsReady r m → m.routing.tracks ≤ 1000
-low_tracks r m h = omega (arith, few_tracks (placement_of m.row) m.inputs.cell.pins m.routing (placed r m h) (wired r m h))
+pub low_tracks : (m : MadeCell) → IsStanding m → m.routing.tracks ≤ 1000
+low_tracks m h = omega (arith, few_tracks (placement_of m.row) m.inputs.cell.pins m.routing (placed m h) (wired m h))
 
 -- ---- what making it came to
 
 abbrev pub made_of : Inputs → Placement → Log → Routing → Drawn → MadeCell
 made_of inputs placement log routing drawn = record { inputs = inputs; row = placement.row; log = log; routing = routing; lines = drawn.lines }
 
-pub ready_of : (r : RowInputs) (inputs : Inputs) (placement : Placement) (log : Log) (routing : Routing) (drawn : Drawn) → AreInputs inputs → AreInputsOf r inputs → ComesTo plain_style inputs (outcome.Made placement log routing drawn) → CanBeWritten inputs (outcome.Made placement log routing drawn) → LiesInFrame inputs (outcome.Made placement log routing drawn) → IsReady r (made_of inputs placement log routing drawn)
-ready_of r inputs placement log routing drawn are of (made, (is, tapped)) (readable, few) extent = record {
-  is = record { of = of; made = made };
-  sound = record {
-    inputs = are;
-    extent = subst (λ (d : Drawing). HasExtent (frame_in inputs placement.row routing drawn.lines) drawn.lines d) is extent;
-    readable = subst (λ (d : Drawing). IsReadable inputs.cell.name d.shapes (unit_nm inputs.tech)) (final_is plain_style.taps drawn tapped ∙ is) readable;
-    few = subst (λ (d : Drawing). length d.shapes.rects < MOST_SHAPES) is few;
-  };
+-- what was drawn is a sound cell
+pub sound_so : (inputs : Inputs) (placement : Placement) (log : Log) (routing : Routing) (drawn : Drawn) → AreInputs inputs → drawn.drawing ≡ drawing_in inputs placement.row routing drawn.lines → drawn.tapped ≡ tapped_by plain_style.taps drawn.drawing drawn.lines → IsReadable inputs.cell.name (final_of drawn).shapes (unit_nm inputs.tech) → length drawn.drawing.shapes.rects < MOST_SHAPES → HasExtent (frame_in inputs placement.row routing drawn.lines) drawn.lines drawn.drawing → IsSoundCell (made_of inputs placement log routing drawn)
+sound_so inputs placement log routing drawn are is tapped readable few extent = record {
+  inputs = are;
+  extent = subst (λ (d : Drawing). HasExtent (frame_in inputs placement.row routing drawn.lines) drawn.lines d) is extent;
+  readable = subst (λ (d : Drawing). IsReadable inputs.cell.name d.shapes (unit_nm inputs.tech)) (final_is plain_style.taps drawn tapped ∙ is) readable;
+  few = subst (λ (d : Drawing). length d.shapes.rects < MOST_SHAPES) is few;
 }
 
 pub same_cell : (c d : RowCell) → c.name ≡ d.name → c.nets ≡ d.nets → c.pins ≡ d.pins → c.drawing ≡ d.drawing → c.edges.n ≡ d.edges.n → c.edges.p ≡ d.edges.p → c ≡ d
@@ -156,13 +192,3 @@ same_cell c d name nets pins drawing n p =
   where
     made : List ℕ → List (List ℕ) → Pins → Drawing → ℕ → ℕ → RowCell
     made name nets pins drawing n p = record { name = name; nets = nets; pins = pins; drawing = drawing; edges = record { n = n; p = p } }
-
--- the same, of an outcome that is a drawing
-pub ready_so : (r : RowInputs) (inputs : Inputs) (style : Style) (came : Outcome) (placement : Placement) (log : Log) (routing : Routing) (drawn : Drawn) → style ≡ plain_style → came ≡ outcome.Made placement log routing drawn → AreInputs inputs → AreInputsOf r inputs → ComesTo style inputs came → CanBeWritten inputs came → LiesInFrame inputs came → IsReady r (made_of inputs placement log routing drawn)
-ready_so r inputs style came placement log routing drawn plain is are of comes written extent =
-    ready_of r inputs placement log routing drawn are of (subst (ComesTo plain_style inputs) is (subst (λ s. ComesTo s inputs came) plain comes)) (subst (CanBeWritten inputs) is written) (subst (LiesInFrame inputs) is extent)
-
-pub drawn_so : (inputs : Inputs) (style : Style) (came : Outcome) (placement : Placement) (log : Log) (routing : Routing) (drawn : Drawn) → style ≡ plain_style → came ≡ outcome.Made placement log routing drawn → ComesTo style inputs came → drawn.drawing ≡ cell_drawing (made_of inputs placement log routing drawn)
-drawn_so inputs style came placement log routing drawn plain is comes =
-    let drawn_in : ComesTo plain_style inputs (outcome.Made placement log routing drawn) = subst (ComesTo plain_style inputs) is (subst (λ s. ComesTo s inputs came) plain comes) in
-    drawn_in.1.0

@@ -13,8 +13,8 @@ comes_next r names cells name later s all = record { each = s.are.each; later = 
 
 pub stops_here : (r : RowInputs) (names : List (List ℕ)) (cells : List RowCell) (name : List ℕ) (later : List (List ℕ)) (stop : RowStop) → AreCellsOf r names cells → r.names ≡ names ++ name ∷ later → IsStop r name stop → Stops r stop
 stops_here r names cells name later (Refused f) s all fault = (s.made, name, record { next = comes_next r names cells name later s all; is = fault })
-stops_here r names cells name later (Stopped inputs why) s all (of, named, (answer, makes, none, told)) =
-    (s.made, answer, record { next = comes_next r names cells inputs.cell.name later s (all ∙ ap (λ n. names ++ n ∷ later) (sym named)); of = of; makes = makes; stops = none }, told)
+stops_here r names cells name later (Stopped inputs why) s all (of, named, (answer, stops, told)) =
+    (s.made, answer, record { next = comes_next r names cells inputs.cell.name later s (all ∙ ap (λ n. names ++ n ∷ later) (sym named)); of = of; stops = stops }, told)
 stops_here r names cells name later NoMemory s all fault = tt
 
 -- a stop that is handed on

@@ -6,7 +6,7 @@ use Rattle.cell_make.specs.declared.channel.ChannelStop.{ChannelStop}
 use Rattle.cell_make.specs.declared.channel.ChannelStop.TheVariants.{Ring, NoMemory}
 use Rattle.cell_make.specs.Style.{IsToldRing}
 
--- a ring is reported, or memory ran out
+-- a cycle is reported, or memory ran out
 abbrev pub TellsRing : Wiring → Placement → Pins → ChannelStop → Type 0
 TellsRing wiring placement pins (Ring ring) = IsToldRing wiring placement pins ring
 TellsRing wiring placement pins NoMemory = Unit {0}

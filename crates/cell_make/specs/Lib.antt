@@ -1,4 +1,5 @@
 -- What contracts of public calls cite, and what these definitions depend on.
+pub mod CellOfRow
 pub mod Extent
 pub mod Low
 pub mod Making

@@ -10,6 +10,7 @@ use Rattle.row_state.specs.Order.{RowBefore}
 use Rattle.log_check.specs.Accepted.{WithKinds}
 use Rattle.row_search.specs.First.{IsFirstLeast}
 use Rattle.row_place.specs.Places.{placement_of}
+use Rattle.row_place.specs.Trunks.{HasPins}
 use Rattle.channel_route.specs.declared.routing.Routing.{Routing}
 use Rattle.channel_route.specs.Cycle.{HasNoCycle}
 use Rattle.channel_route.specs.Routing.{IsLegal}
@@ -17,7 +18,8 @@ use Rattle.first_route.specs.First.{IsFirstRouting}
 use Rattle.track_log.specs.declared.certificate.TrackCertificate.{TrackCertificate}
 use Rattle.track_log.specs.Fits.{CertificateFits}
 use Rattle.track_search.specs.Fewest.{Prove}
-use Rattle.lowest_row.specs.Lowest.{IsBudgetSpent}
+use Rattle.track_search.specs.Kept.{IsKeptWithin}
+use Rattle.track_search.specs.Lowest.{IsBudgetSpent}
 use Rattle.cell_inputs.specs.declared.style.Style.{Style}
 use Rattle.cell_inputs.specs.declared.style.Taps.{Taps}
 use Rattle.cell_inputs.specs.declared.style.Wiring.TheVariants.{Straight}
@@ -45,8 +47,15 @@ abbrev pub NoneIsWired : Inputs → Type 0
 NoneIsWired inputs =
     (row : List Column) (r : Routing) → IsLeast inputs.fingers row → IsLegal (placement_of row) inputs.cell.pins r → ⊥
 
+-- there is a first least row, and each pin other than the rails has a place in it
+pub record HasFirstLeast (inputs : Inputs) : Type 0 where
+  pub row : List Column
+  pub first : IsFirstLeast inputs.fingers row
+  pub pins : HasPins (placement_of row) inputs.cell.pins
+
 -- The certificate says how many gaps the least rows have, and how many tracks each of them takes at least. Where these
--- are not 0, its lemmas certify it, and a text can hold it.
+-- are not 0, its lemmas certify it, and a text can hold it. The lemmas that the search kept on fewer tracks, with its
+-- own, are no more than the budget.
 pub record ProvesTracks (inputs : Inputs) (certificate : TrackCertificate) : Type 0 where
   pub gaps : (row : List Column) → IsLeast inputs.fingers row → gaps_of row ≡ certificate.gaps
   pub least : TakeAtLeast inputs certificate.tracks
@@ -54,6 +63,10 @@ pub record ProvesTracks (inputs : Inputs) (certificate : TrackCertificate) : Typ
       WithKinds inputs.fingers (λ k.
       Prove component_value inputs.cell.pins k certificate.gaps certificate.tracks certificate.lemmas)
   pub fits : 1 ≤ certificate.tracks → WithKinds inputs.fingers (λ k. CertificateFits k certificate)
+  pub within :
+      WithKinds inputs.fingers (λ k.
+      IsKeptWithin component_value inputs.cell.pins k certificate.gaps certificate.tracks inputs.tech.budget
+      certificate.lemmas)
 
 -- The row is the first of the least rows that have a legal routing on that many tracks, none has one on fewer, and the
 -- routing is the first of its legal ones on these tracks.
@@ -70,15 +83,21 @@ pub record IsLowest (inputs : Inputs) (row : List Column) (routing : Routing) (t
 
 -- ---- where the search for it is open
 
--- its budget is spent, by visits of states or by trunks that were put on tracks
+-- its budget is spent, by the lemmas of the search for the row or by the tries of the search for its routing
 abbrev pub IsTrackSpent : Inputs → TrackCertificate → Type 0
 IsTrackSpent inputs certificate =
     WithKinds inputs.fingers (λ k.
     IsBudgetSpent component_value inputs.cell.pins k certificate.gaps certificate.tracks inputs.tech.budget)
 
+-- No least row is wired, and the certificate proves it: a legal routing has fewer tracks than the cell has nets, and
+-- each least row takes as many.
+pub record ProvesNoneIsWired (inputs : Inputs) (certificate : TrackCertificate) : Type 0 where
+  pub none : NoneIsWired inputs
+  pub tracks : certificate.tracks ≡ inputs.fingers.nets
+
 -- no least row is wired, or the budget is spent
 abbrev pub IsTrackOpen : Inputs → TrackCertificate → Type 0
-IsTrackOpen inputs certificate = NoneIsWired inputs ⊎ IsTrackSpent inputs certificate
+IsTrackOpen inputs certificate = ProvesNoneIsWired inputs certificate ⊎ IsTrackSpent inputs certificate
 
 -- the first least row, where the search for the lowest one is open, with its channel routed legally and tightly
 pub record IsFirstOpen
@@ -99,21 +118,23 @@ abbrev pub IsLowRouted : Style → Inputs → List Column → TrackCertificate �
 IsLowRouted style inputs row certificate routing =
     IsLowest inputs row routing certificate.tracks ⊎ IsFirstOpen style inputs row certificate routing
 
--- only where no least row is wired it is a ring, of the first one
-abbrev pub IsLowStop : Inputs → List Column → DrawAnswer → Type 0
-IsLowStop inputs row (RowDrawn routing xs) = Unit {0}
-IsLowStop inputs row (RowCyclic ring) = IsFirstLeast inputs.fingers row × NoneIsWired inputs
-IsLowStop inputs row (RowTall routing) = Unit {0}
+-- only where no least row is wired it is a cycle, of the first one
+abbrev pub IsLowStop : Inputs → List Column → TrackCertificate → DrawAnswer → Type 0
+IsLowStop inputs row certificate (RowDrawn routing xs) = Unit {0}
+IsLowStop inputs row certificate (RowCyclic ring) =
+    IsFirstLeast inputs.fingers row × ProvesNoneIsWired inputs certificate
+IsLowStop inputs row certificate (RowTall routing) = Unit {0}
 
 abbrev pub DrawsLow : Style → Inputs → List Column → TrackCertificate → DrawAnswer → Type 0
 DrawsLow style inputs row certificate answer =
-    DrawsAs (IsLowRouted style inputs row certificate) style inputs row answer × IsLowStop inputs row answer
+    DrawsAs (IsLowRouted style inputs row certificate) style inputs row answer
+    × IsLowStop inputs row certificate answer
 
 -- ---- as the code answers it
 
 -- why the search is open: no least row is wired, or the budget is spent
 abbrev pub IsTrackEnd : Inputs → TrackCertificate → (none_wired : Bool) → Type 0
-IsTrackEnd inputs certificate true = NoneIsWired inputs
+IsTrackEnd inputs certificate true = ProvesNoneIsWired inputs certificate
 IsTrackEnd inputs certificate false = IsTrackSpent inputs certificate
 
 -- the lowest row on its lines with its routing, or why the search is open; either way the certificate proves its tracks

@@ -1,7 +1,7 @@
 -- What the search for the lowest row ended with, as the certificate of its gaps and tracks.
 use Rattle.std.specs.Prelude.{ℕ, ◌==◌}
-use Rattle.lowest_row.specs.declared.lowest.Lowest.{Lowest}
-use Rattle.lowest_row.specs.declared.lowest.Lowest.TheVariants as ended
+use Rattle.track_search.specs.declared.lowest.Lowest.{Lowest}
+use Rattle.track_search.specs.declared.lowest.Lowest.TheVariants as ended
 use Rattle.cell_make.specs.declared.low_planned.LowPlanned.{LowPlanned}
 use Rattle.cell_make.specs.declared.low_planned.LowPlanned.TheVariants as planned
 

@@ -45,7 +45,7 @@ pub record AreLeastLines (placement : Placement) (pins : Pins) (routing : Routin
   pub least : (other : List ℕ) → AreAllowed placement pins (stretches_of routing.trunks) other
       → (line : ℕ) → line ≤ 2 * length placement.units → x_of xs line ≤ x_of other line
 
--- its channel, routed; no nets stand above each other in a ring
+-- its channel, routed; no nets are above each other in a cycle
 pub record IsRouted (style : Style) (inputs : Inputs) (row : List Column) (routing : Routing) : Type 0 where
   pub acyclic : HasNoRing style.wiring (placement_of row) inputs.cell.pins
   pub legal : AreLegal style.wiring (placement_of row) inputs.cell.pins routing
@@ -90,7 +90,7 @@ HasSmallFiles style inputs row routing xs =
     AreSmall (library_of inputs (final_in style inputs row routing xs))
     (abstract_of inputs routing (drawing_in inputs row routing xs))
 
--- What is said of a drawn row. `Routed` holds of its channel, its lines stand at the least places, and the height is
+-- What is said of a drawn row. `Routed` holds of its channel, its lines are at the least places, and the height is
 -- enough. The shapes obey every rule, extract net by net to the fingers, and show the row and the routing;
 -- with taps each device's body is its row's rail. The bytes, which have no other structure, decode with the cell's name
 -- and the technology's lambda to these shapes. Each pin has a port, and one for each trunk of its net, every cell of

@@ -5,11 +5,10 @@ use Rattle.bound_log.specs.declared.log.Log.{Log}
 use Rattle.cell_draw.specs.declared.drawing.Drawing.{Drawing}
 use Rattle.cell_draw.specs.declared.layout.Frame.{Frame}
 use Rattle.cell_draw.specs.Extracted.{ExtractsTo}
-use Rattle.cell_draw.specs.Frame.{needed_of}
 use Rattle.cell_inputs.specs.Inputs.{Inputs, unit_nm}
-use Rattle.cell_inputs.specs.Style.{plain_style}
 use Rattle.cell_make.specs.Extent.{frame_in}
-use Rattle.cell_make.specs.Making.{IsMade, MakeAnswer, Made, Cyclic, Tall, Unfinished, Makes, drawing_in}
+use Rattle.cell_make.specs.CellOfRow.{IsMadeBy, StopAnswer, StopsBy, TellsWhy}
+use Rattle.cell_make.specs.Making.{drawing_in}
 use Rattle.channel_route.specs.declared.routing.Routing.{Routing}
 use Rattle.finger_fold.specs.Folding.{folded}
 use Rattle.gds_read.specs.Decoding.{Decodes}
@@ -24,8 +23,6 @@ use Rattle.row_abut.specs.declared.cell.RowFault.TheVariants.{Heights, Channel, 
 use Rattle.cell_make.specs.RowInputs.{RowInputs}
 use Rattle.cell_make.specs.declared.row_outcome.InputFault.{InputFault}
 use Rattle.cell_make.specs.declared.row_outcome.InputFault.TheVariants.{Spice, Fold}
-use Rattle.cell_make.specs.declared.row_outcome.Undrawn.{Undrawn}
-use Rattle.cell_make.specs.declared.row_outcome.Undrawn.TheVariants as why
 use Rattle.cell_make.specs.declared.row_outcome.RowOutcome.{RowOutcome}
 use Rattle.cell_make.specs.declared.row_outcome.RowOutcome.TheVariants as outcome
 use Rattle.row_model.specs.declared.column.Column.{Column}
@@ -42,7 +39,7 @@ pub record AreInputsOf (r : RowInputs) (inputs : Inputs) : Type 0 where
   pub cell : subcircuit r.spice inputs.cell.name r.tech ≡ Ok inputs.cell
   pub fingers : folded r.tech inputs.cell ≡ Ok inputs.fingers
 
--- a cell that was made: its inputs, its row, the log of that, its channel and the positions of its lines
+-- a cell that was made: its inputs, its row, the log of its gaps, its channel and the positions of its lines
 pub record MadeCell : Type 0 where
   pub inputs : Inputs
   pub row : List Column
@@ -59,10 +56,10 @@ cell_frame m = frame_in m.inputs m.row m.routing m.lines
 abbrev pub cell_drawing : MadeCell → Drawing
 cell_drawing m = drawing_in m.inputs m.row m.routing m.lines
 
--- its first least row, drawn with straight trunks and no taps
+-- so it is of the cell's inputs and of the row that is asked for
 pub record IsMadeCell (r : RowInputs) (m : MadeCell) : Type 0 where
   pub of : AreInputsOf r m.inputs
-  pub made : IsMade plain_style m.inputs m.row m.log m.routing m.lines
+  pub made : IsMadeBy r.choice m.inputs m.row m.log m.routing m.lines
 
 -- two of one name are one
 pub record IsOneByName (a b : MadeCell) : Type 0 where
@@ -98,7 +95,7 @@ row_width made = sum_by (λ (m : MadeCell). (cell_drawing m).width) made
 abbrev pub row_height : List MadeCell → ℕ
 row_height made = first_height (row_cells made)
 
--- why cells do not stand side by side: their heights differ, or the channels of two neighbours
+-- why cells can't be side by side: their heights differ, or the channels of two neighbours
 abbrev pub IsRowFault : List RowCell → RowFault → Type 0
 IsRowFault cells (Heights first other) = DifferInHeight cells first other
 IsRowFault cells (Channel left right) = ClashInChannel cells left right
@@ -137,27 +134,11 @@ pub record IsRefused (r : RowInputs) (before : List MadeCell) (name : List ℕ) 
   pub next : ComesNext r before name
   pub is : IsInputFault r name fault
 
--- there is no drawing
-abbrev pub IsNoDrawing : MakeAnswer → Type 0
-IsNoDrawing (Made row log routing xs) = ⊥
-IsNoDrawing (Cyclic row log ring) = Unit {0}
-IsNoDrawing (Tall row log routing) = Unit {0}
-IsNoDrawing (Unfinished proved log) = Unit {0}
-
--- the next cell can't be drawn: nets of its row stand in a ring, its height is not enough, or the budget is spent
-pub record IsStopped (r : RowInputs) (before : List MadeCell) (inputs : Inputs) (answer : MakeAnswer) : Type 0 where
+-- the next cell has no drawing
+pub record IsStopped (r : RowInputs) (before : List MadeCell) (inputs : Inputs) (answer : StopAnswer) : Type 0 where
   pub next : ComesNext r before inputs.cell.name
   pub of : AreInputsOf r inputs
-  pub makes : Makes plain_style inputs answer
-  pub stops : IsNoDrawing answer
-
--- why there is no drawing, as it is reported: the ring, the heights that are needed and given, or the log of the search
-abbrev pub TellsWhy : Inputs → Undrawn → MakeAnswer → Type 0
-TellsWhy inputs (why.Cyclic ring) answer = (row : List Column) × (log : Log) × (answer ≡ Cyclic row log ring)
-TellsWhy inputs (why.Tall needed given) answer =
-    (row : List Column) × (log : Log) × (routing : Routing) × (answer ≡ Tall row log routing)
-    × (needed ≡ needed_of row routing.tracks) × (given ≡ inputs.tech.height)
-TellsWhy inputs (why.Unfinished log proved) answer = answer ≡ Unfinished proved log
+  pub stops : StopsBy r.choice inputs answer
 
 -- all cells are made, and this fault keeps them from standing side by side
 pub record IsUnabutted (r : RowInputs) (made : List MadeCell) (fault : RowFault) : Type 0 where
@@ -169,7 +150,7 @@ pub record IsUnabutted (r : RowInputs) (made : List MadeCell) (fault : RowFault)
 pub data RowAnswer : Type 0 where
   Rowed : (made : List MadeCell) → RowAnswer
   Refused : (before : List MadeCell) (name : List ℕ) (fault : InputFault) → RowAnswer
-  Stopped : (before : List MadeCell) (inputs : Inputs) (answer : MakeAnswer) → RowAnswer
+  Stopped : (before : List MadeCell) (inputs : Inputs) (answer : StopAnswer) → RowAnswer
   Unabutted : (made : List MadeCell) (fault : RowFault) → RowAnswer
 
 abbrev pub Rows : RowInputs → RowAnswer → Type 0
@@ -191,5 +172,5 @@ ComesToRow r (outcome.Rowed library width height) =
     (made : List MadeCell) × IsRowed r made × IsWritten r made library width height
 ComesToRow r (outcome.Refused fault) = (before : List MadeCell) × (name : List ℕ) × IsRefused r before name fault
 ComesToRow r (outcome.Stopped inputs why) =
-    (before : List MadeCell) × (answer : MakeAnswer) × IsStopped r before inputs answer × TellsWhy inputs why answer
+    (before : List MadeCell) × (answer : StopAnswer) × IsStopped r before inputs answer × TellsWhy inputs why answer
 ComesToRow r (outcome.Unabutted fault) = (made : List MadeCell) × IsUnabutted r made fault

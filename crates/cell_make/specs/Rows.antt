@@ -1,4 +1,4 @@
--- What drawing a row results in: its drawing, a ring of its nets, or a height that is not enough.
+-- What drawing a row results in: its drawing, a cycle of its nets, or a height that is not enough.
 use Rattle.std.specs.Prelude.{ℕ, ◌≡◌, ◌<◌, List, length}
 use Rattle.row_model.specs.declared.column.Column.{Column}
 use Rattle.row_place.specs.declared.placement.Placement.{Placement}
@@ -21,8 +21,8 @@ pub data DrawAnswer : Type 0 where
   RowCyclic : (ring : Ring) → DrawAnswer
   RowTall : (routing : Routing) → DrawAnswer
 
--- The row is drawn on these tracks and lines, with this said of its routing; or nets of it stand above each other in
--- this ring, as it is reported; or this is said of its routing, and it needs more than the height.
+-- The row is drawn on these tracks and lines, with this said of its routing; or nets of it are above each other in
+-- this cycle, as it is reported; or this is said of its routing, and it needs more than the height.
 abbrev pub DrawsAs : (Routing → Type 0) → Style → Inputs → List Column → DrawAnswer → Type 0
 DrawsAs Routed style inputs row (RowDrawn routing xs) = IsDrawnAs (Routed routing) style inputs row routing xs
 DrawsAs Routed style inputs row (RowCyclic ring) = IsToldRing style.wiring (placement_of row) inputs.cell.pins ring
@@ -69,7 +69,7 @@ ComesFrom style inputs row of = ComesAs (IsRouted style inputs row) style inputs
 abbrev pub IsThat : Routing → Routing → Type 0
 IsThat routing other = other ≡ routing
 
--- it is no ring
+-- it is no cycle
 abbrev pub IsWired : DrawOutcome → Type 0
 IsWired (came.Drawn placement routing drawn) = Unit {0}
 IsWired (came.Cyclic placement ring) = ⊥

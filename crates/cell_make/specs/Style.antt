@@ -34,7 +34,7 @@ use Rattle.cell_inputs.specs.declared.style.Wiring.TheVariants.{Straight, Dogleg
 abbrev pub as_pieces : Routing → PieceRouting
 as_pieces routing = record { tracks = routing.tracks; pieces = routing.trunks }
 
--- no nets, or no pieces of nets, stand above each other in a ring
+-- no nets, or no pieces of nets, are above each other in a cycle
 abbrev pub HasNoRing : Wiring → Placement → Pins → Type 0
 HasNoRing Straight placement pins = HasNoCycle placement pins
 HasNoRing Doglegs placement pins = HasNoPieceCycle placement pins
@@ -49,27 +49,27 @@ abbrev pub AreTight : Wiring → Placement → Pins → Routing → Type 0
 AreTight Straight placement pins routing = IsTight placement pins routing
 AreTight Doglegs placement pins routing = ArePiecesTight placement pins (as_pieces routing)
 
--- nets, or pieces of nets, stand above each other in this ring
+-- nets, or pieces of nets, are above each other in this cycle
 abbrev pub IsRing : Wiring → Placement → Pins → Ring → Type 0
 IsRing Straight placement pins (OfNets cycle) = IsCycle placement pins cycle
 IsRing Straight placement pins (OfPieces cycle) = ⊥
 IsRing Doglegs placement pins (OfNets cycle) = ⊥
 IsRing Doglegs placement pins (OfPieces cycle) = IsPieceCycle placement pins cycle
 
--- a ring of pieces, written from its first piece on, and the one below the first piece that can't be placed
+-- a cycle of pieces, written from its first piece on, and the one below the first piece that can't be placed
 pub record IsPieceRing (placement : Placement) (pins : Pins) (cycle : List WireAbove) : Type 0 where
   pub is : IsPieceCycle placement pins cycle
   pub first : BeginsFirst placement pins cycle
   pub told : IsPieceTold placement pins cycle
 
--- the ring below the first net, or the first piece, that can't be placed
+-- the cycle below the first net, or the first piece, that can't be placed
 abbrev pub IsToldRing : Wiring → Placement → Pins → Ring → Type 0
 IsToldRing Straight placement pins (OfNets cycle) = IsTold placement pins cycle
 IsToldRing Straight placement pins (OfPieces cycle) = ⊥
 IsToldRing Doglegs placement pins (OfNets cycle) = ⊥
 IsToldRing Doglegs placement pins (OfPieces cycle) = IsPieceRing placement pins cycle
 
--- the labels of the nets stand on their tracks; with doglegs where their first pieces begin
+-- the labels of the nets are on their tracks; with doglegs where their first pieces begin
 abbrev pub ShowsWiring : Wiring → List (List ℕ) → Pins → Placement → List ℕ → Shapes → Routing → Type 0
 ShowsWiring Straight names pins placement xs shapes routing = ShowsRouting names pins placement shapes routing
 ShowsWiring Doglegs names pins placement xs shapes routing = ShowsFirsts names placement xs shapes routing.trunks

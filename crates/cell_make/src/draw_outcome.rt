@@ -25,7 +25,7 @@ pub enum DrawOutcome {
         routing: Routing,
         drawn: Drawn,
     },
-    /// Nets of the row, or parts of them, stand above each other in a ring.
+    /// Nets of the row, or parts of them, are above each other in a cycle.
     Cyclic {
         placement: Placement,
         ring: Ring,
@@ -81,7 +81,7 @@ fn of_routed(
 }
 
 impl DrawOutcome {
-    /// The drawing of an arrangement of the fingers in this style; or a ring of its nets, or a height that is not
+    /// The drawing of an arrangement of the fingers in this style; or a cycle of its nets, or a height that is not
     /// enough. A drawing can be written.
     pub fn of(
         alloc: Global,

@@ -36,7 +36,7 @@ use well_tap::draw_taps;
 /// them.
 pub const LEAST_WIDTH: u32 = 32;
 
-/// A drawn cell is at most that many grid units wide. The last line stands at 127,008 or less, the side 8 after it.
+/// A drawn cell is at most that many grid units wide. The last line is at 127,008 or less, the side 8 after it.
 pub const MOST_WIDTH: u32 = 127_016;
 
 /// A drawn row, and the positions of its lines in grid units.

@@ -5,6 +5,8 @@
 mod channel;
 pub mod draw_outcome;
 pub mod drawn;
+mod drawn_cell;
+mod low_drawn;
 pub mod low_planned;
 pub mod outcome;
 pub mod planned;

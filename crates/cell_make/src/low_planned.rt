@@ -5,12 +5,12 @@ ghost use Rattle.cell_make.specs.LowEnded.{planned_by};
 use cell_inputs::Inputs;
 use cell_num::NoMemory;
 use channel_route::Routing;
-use lowest_row::{Lowest, lowest_row, sound_pins};
 use row_model::{Arrangement, gaps};
 use row_place::Placement;
 use row_state::{Component, kinds};
 use std::alloc::Global;
 use track_log::TrackCertificate;
+use track_search::{Lowest, lowest_row, sound_pins};
 
 /// What the search for the lowest row results in: of all rows with the fewest gaps the first on the fewest tracks.
 #[derive(Drop)]
@@ -64,8 +64,8 @@ impl LowPlanned {
     }
 
     /// The lowest row of the fingers, by the gaps of a row that has the fewest, with the first of its routings. It
-    /// visits as many states as the budget allows, and tries as many trunks on tracks. A legal routing has fewer tracks
-    /// than the cell has nets, so where each row takes that many, none has a legal routing.
+    /// keeps no more lemmas than the budget, and tries no more trunks on tracks. A legal routing has fewer tracks than
+    /// the cell has nets, so where each row takes that many, none has a legal routing.
     pub fn of(alloc: Global, inputs: &Inputs, row: &Arrangement) -> Result<LowPlanned, NoMemory>
         requires { IsLeast inputs.now.fingers row.now }
         ensures { IfOk result (IsLowPlanned inputs.now) }

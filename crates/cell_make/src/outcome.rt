@@ -23,7 +23,7 @@ pub enum Outcome {
         routing: Routing,
         drawn: Drawn,
     },
-    /// Nets of that row, or parts of them, stand above each other in a ring.
+    /// Nets of that row, or parts of them, are above each other in a cycle.
     Cyclic {
         placement: Placement,
         log: KeptLog,
@@ -80,12 +80,12 @@ impl Outcome {
         }
     }
 
-    /// The drawing of the first least row in this style, with its log; or the log, with a ring of the row, with a
+    /// The drawing of the first least row in this style, with its log; or the log, with a cycle of the row, with a
     /// height that is not enough, or of a search that spent its budget. A drawing can be written.
     pub fn of(alloc: Global, inputs: &Inputs, style: Style) -> Result<Outcome, NoMemory>
         ensures comes { IfOk result (ComesTo style inputs.now) }
         ensures written { IfOk result (CanBeWritten inputs.now) }
-        // the row stands on its lines
+        // the row is on its lines
         ensures placed { IfOk result IsOnItsLines }
         ensures extent { IfOk result (LiesInFrame inputs.now) }
     {

@@ -2,6 +2,7 @@ ghost use Rattle.std.specs.Prelude.{◌≡◌};
 ghost use Rattle.cell_inputs.specs.Inputs.{unit_nm};
 ghost use Rattle.cell_make.specs.RowInputs.{AreRowInputs};
 
+use cell_inputs::LeastRow;
 use cell_num::{Bytes, Name, Names};
 use std::marker::Model;
 use tech_file::Tech;
@@ -17,6 +18,8 @@ pub struct RowInputs {
     pub top: Name,
     /// The cells' names from the left, 1 to [`MOST_CELLS`](row_abut::MOST_CELLS), in lower case.
     pub names: Names,
+    /// Which of its least rows each cell is drawn with.
+    pub choice: LeastRow,
 }
 
 impl Model for RowInputs {
@@ -24,9 +27,9 @@ impl Model for RowInputs {
 
     ghost Value = { InputsOf };
 
-    ghost view = { λ i. row_inputs i.tech i.spice i.top i.names };
+    ghost view = { λ i. row_inputs i.tech i.spice i.top i.names i.choice };
 
-    ghost invariant = { λ i. AreRowInputs (row_inputs i.tech i.spice i.top i.names) };
+    ghost invariant = { λ i. AreRowInputs (row_inputs i.tech i.spice i.top i.names i.choice) };
 }
 
 impl RowInputs {

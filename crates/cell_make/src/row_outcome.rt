@@ -28,12 +28,16 @@ pub enum InputFault {
 /// Why a cell is not drawn.
 #[derive(Drop)]
 pub enum Undrawn {
-    /// Nets of its first least row stand above each other in a ring.
+    /// Nets of its first least row are above each other in a cycle. Where the lowest row is asked for, no least row is
+    /// wired.
     Cyclic { ring: Ring },
     /// The given height is below the one that is needed.
     Tall { needed: u32, given: u32 },
     /// The search spent its budget.
     Unfinished { log: KeptLog, proved: u32 },
+    /// Nets of its first least row are above each other in a cycle, and the search for the lowest one spent its budget.
+    /// Each least row takes that many tracks at least.
+    Unwired { ring: Ring, fewest: u32 },
 }
 
 /// The outcome of making a row of cells.
@@ -52,7 +56,7 @@ pub enum RowOutcome {
         inputs: Inputs,
         why: Undrawn,
     },
-    /// The cells do not stand side by side.
+    /// The cells can't be side by side.
     Unabutted(RowFault),
 }
 
@@ -76,7 +80,7 @@ fn unabutted(fault: RowFault) -> Result<RowOutcome, NoMemory>
     }
 }
 
-// The library of made cells, or why they do not stand side by side.
+// The library of made cells, or why they can't be side by side.
 fn side_by_side(alloc: Global, row: &RowInputs, cells: &RowCellList) -> Result<RowOutcome, NoMemory>
     requires { AreCellsOf row.now row.now.names cells.now }
     ensures { IfOk result (ComesToRow row.now) }
@@ -96,7 +100,7 @@ fn side_by_side(alloc: Global, row: &RowInputs, cells: &RowCellList) -> Result<R
 }
 
 impl RowOutcome {
-    /// The library of the cells side by side; or the first cell that is not made, and why; or why they do not stand so.
+    /// The library of the cells side by side; or the first cell that is not made, and why; or why they can't be so.
     pub fn of(alloc: Global, row: &RowInputs) -> Result<RowOutcome, NoMemory>
         ensures { IfOk result (ComesToRow row.now) }
     {

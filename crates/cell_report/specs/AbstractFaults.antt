@@ -22,7 +22,7 @@ lef_fault lef.NoMemory = fault_of (codes "NoMemory") []
 abbrev pub metal_text : Layer → List ℕ
 metal_text layer = if same_layer layer Metal2 then codes "metal2" else codes "metal1"
 
--- a difference; that the drawing has no netlist is reported as extraction tells it
+-- a difference; that the drawing has no netlist is reported as extraction reports it
 abbrev pub differ_text : Differ → List ℕ
 differ_text (differ.Extract f) = fault_line (codes "extract") (extract_fault f)
 differ_text (differ.NoLabel name) = fault_line (codes "agree") (with_text (codes "NoLabel") (codes "name") name)

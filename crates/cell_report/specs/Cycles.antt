@@ -1,4 +1,4 @@
--- The lines of a cycle of nets or of pieces of nets, each of which stands above the next, and the last above the first.
+-- The lines of a cycle of nets or of pieces of nets, each of which is above the next, and the last above the first.
 use Rattle.std.specs.Prelude.{ℕ, ◌+◌, nat_lt, if◌then◌else◌, List, [], ◌++◌, length, slice_get, flat_map, codes}
 use Rattle.std.specs.Prelude.{decimal, Option, Some, None}
 use Rattle.std.specs.List.{enumerate_from}
@@ -36,7 +36,7 @@ cycle_text told line cycle = flat_map (above_text told line cycle) (enumerate_fr
 abbrev pub net_text : List (List ℕ) → Above → List ℕ
 net_text nets above = name_of nets above.net.0
 
--- a piece is told by its net and its first line
+-- a piece is named by its net and its first line
 abbrev pub piece_text : List (List ℕ) → WireAbove → List ℕ
 piece_text nets piece = name_of nets piece.net.0 ++ codes " from line " ++ decimal piece.left
 

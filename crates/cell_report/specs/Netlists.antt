@@ -26,7 +26,7 @@ body_name nets (Some (Some net)) = name_of nets net
 body_name nets (Some None) = codes "-"
 body_name nets None = codes "-"
 
--- the body of the device with that number, where bodies are told
+-- the body of the device with that number, where bodies are reported
 abbrev pub body_text : List (List ℕ) → Option (List (Option ℕ)) → ℕ → List ℕ
 body_text nets None at = []
 body_text nets (Some bodies) at = codes " body " ++ body_name nets (slice_get bodies at)
@@ -52,7 +52,7 @@ abbrev pub device_lines : Netlist → Option (List (Option ℕ)) → List ℕ
 device_lines netlist bodies = flat_map (device_line netlist.names bodies) (enumerate_from 0 netlist.devices)
 
 -- the cell's name, the numbers of its nets and devices, its nets by number, and its devices, with their bodies where
--- these are told
+-- these are reported
 abbrev pub netlist_text : List ℕ → Netlist → Option (List (Option ℕ)) → List ℕ
 netlist_text name netlist bodies =
     text_line (codes "cell ") name

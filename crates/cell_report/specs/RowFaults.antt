@@ -1,4 +1,4 @@
--- Why cells do not stand side by side, by names and fields.
+-- Why cells can't be side by side, by names and fields.
 use Rattle.std.specs.Prelude.{[], codes}
 use Rattle.row_abut.specs.declared.cell.RowFault.{RowFault}
 use Rattle.row_abut.specs.declared.cell.RowFault.TheVariants as row

@@ -1,7 +1,7 @@
 -- Why the text of a certificate of tracks is rejected, by names and fields.
 use Rattle.std.specs.Prelude.{[], codes}
-use Rattle.track_accept.specs.declared.rejected.TextRejected.{TextRejected}
-use Rattle.track_accept.specs.declared.rejected.TextRejected.TheVariants as because
+use Rattle.track_check.specs.declared.rejected.TextRejected.{TextRejected}
+use Rattle.track_check.specs.declared.rejected.TextRejected.TheVariants as because
 use Rattle.cell_report.specs.Faults.{Fault, at_line, fault_of, log_fault}
 
 -- a text that is no certificate has the faults of the text of a log

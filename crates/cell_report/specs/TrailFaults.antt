@@ -5,7 +5,7 @@ use Rattle.trail_check.specs.declared.refusal.TrailRefusal.TheVariants as refusa
 use Rattle.cell_report.specs.Faults.{Fault, at_line, fault_of, with_two}
 use Rattle.cell_report.specs.LayoutFaults.{with_one}
 
--- a gate is told by the number of its net
+-- a gate is named by the number of its net
 abbrev pub trail_fault : TrailRefusal → Fault
 trail_fault refusal.Gates = fault_of (codes "Gates") []
 trail_fault (refusal.Choices gate) = with_one (codes "Choices") (codes "gate") gate.0

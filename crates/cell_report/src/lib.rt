@@ -1,4 +1,4 @@
-// The lines that are reported of a row, of a drawn cell, of a ring, of a log, of a layout, and of faults.
+// The lines that are reported of a row, of a drawn cell, of a cycle, of a log, of a layout, and of faults.
 #![tactic(auto)]
 
 mod abstract_faults;

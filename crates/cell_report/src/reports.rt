@@ -17,7 +17,7 @@ use log_output::{Content, KeptLog, LogText};
 use spice_net::Subckt;
 use std::alloc::Global;
 
-/// The report of a ring of nets.
+/// The report of a cycle of nets, or of pieces of nets.
 pub fn cycle_report(alloc: Global, nets: &Names, ring: &Ring) -> Result<Bytes, NoMemory>
     ensures { IfOk result (λ report. report ≡ first_line status.Cycle ++ ring_text nets.now ring.now) }
 {
@@ -37,8 +37,8 @@ pub fn tall_report(alloc: Global, fewest: &[u8], needed: u32, given: u32) -> Res
     Ok(report)
 }
 
-/// The report of an open search for the lowest row, where the first least row has a ring of nets: the fewest tracks, as
-/// in [`put_fewest`], and the ring.
+/// The report of an open search for the lowest row, where the first least row has a cycle of nets: the fewest tracks,
+/// as in [`put_fewest`], and the cycle.
 pub fn open_ring_report(
     alloc: Global,
     nets: &Names,

@@ -106,7 +106,7 @@ fn put_above<E: Entry>(
     out.extend(b"\n")
 }
 
-// A line for each entry: the entry, the one that it stands above, and the line at which they meet.
+// A line for each entry: the entry, the one that it is above, and the line at which they meet.
 pub(crate) fn put_cycle<E: Entry>(
     out: &mut Bytes,
     nets: &Names,
@@ -120,8 +120,8 @@ pub(crate) fn put_cycle<E: Entry>(
     Ok(())
 }
 
-/// Adds a line for each entry of a ring: the net or the piece, the one that it stands above, and the line at which they
-/// meet. The last stands above the first.
+/// Adds a line for each entry of a cycle: the net or the piece, the one that it is above, and the line at which they
+/// meet. The last is above the first.
 pub fn put_ring(out: &mut Bytes, nets: &Names, ring: &Ring) -> Result<(), NoMemory>
     ensures { OnOk result (out.new ≡ out.old ++ ring_text nets.now ring.now) }
 {

@@ -27,7 +27,7 @@ fn put_two(
     )
 }
 
-/// Adds the line that says why cells do not stand side by side.
+/// Adds the line that says why cells can't be side by side.
 pub fn put_row_fault(out: &mut Bytes, fault: &RowFault) -> Result<(), NoMemory>
     ensures { OnOk result (out.new ≡ out.old ++ fault_line (codes "row") (row_fault fault.now)) }
 {

@@ -31,8 +31,8 @@ pub fn plan_text(
     Ok(out.into_vec())
 }
 
-/// A line for each entry of a cycle of nets: the net, the one that it stands above, and the line at which they meet.
-/// The last stands above the first.
+/// A line for each entry of a cycle of nets: the net, the one that it is above, and the line at which they meet.
+/// The last is above the first.
 pub fn cycle_text(alloc: Global, nets: &Names, cycle: &CycleList) -> Result<Vec<u8>, NoMemory>
     ensures { IfOk result (λ text. text.items ≡ nets_text nets.now cycle.now) }
 {

@@ -6,7 +6,7 @@ use crate::fault_line::{Field, put_fault};
 use crate::faults::put_text_fault;
 use bound_log::LogFault;
 use cell_num::{Bytes, NoMemory};
-use track_accept::TextRejected;
+use track_check::TextRejected;
 
 /// Adds the line of a fault of the text of a certificate of tracks.
 pub fn put_tracks(out: &mut Bytes, fault: &LogFault) -> Result<(), NoMemory>

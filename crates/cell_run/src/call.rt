@@ -3,30 +3,30 @@ ghost use Rattle.cell_io.specs.Desk.{Both, Rose};
 ghost use Rattle.call_end.specs.declared.end.End.{End as EndOf};
 ghost use Rattle.call_end.specs.declared.status.Status.TheVariants as status;
 ghost use Rattle.layout_commands.specs.Agree.{DoesAgree};
-ghost use Rattle.run_laws.specs.Agree.{ComparesMade, HasDisagreement, HasNoNets, IsAgree, IsAgreedCell, IsDisagreed};
-ghost use Rattle.run_laws.specs.Agree.{IsWithoutNets, OfCompared};
-ghost use Rattle.run_laws.specs.Bench.{IsBench, IsBenchTold, WhereBenchEnds};
-ghost use Rattle.run_laws.specs.Calm.{EndsSo, IfCalm, IsDoneOrShort};
-ghost use Rattle.run_laws.specs.Check.{HoldsAccepted, IsCheck};
-ghost use Rattle.run_laws.specs.Created.{CreatesOnce};
+ghost use Rattle.cell_run.specs.Agree.{ComparesMade, HasDisagreement, HasNoNets, IsAgree, IsAgreedCell, IsDisagreed};
+ghost use Rattle.cell_run.specs.Agree.{IsWithoutNets, OfCompared};
+ghost use Rattle.cell_run.specs.Bench.{IsBench, IsBenchTold, WhereBenchEnds};
+ghost use Rattle.cell_run.specs.Calm.{EndsSo, IfCalm, IsDoneOrShort};
+ghost use Rattle.cell_run.specs.Check.{HoldsAccepted, IsCheck};
+ghost use Rattle.cell_run.specs.Created.{CreatesOnce};
 ghost use Rattle.call_end.specs.Deliver.{Tells, TellsWhole};
 ghost use Rattle.call_work.specs.Ends.{CallsFor, IsOfOutside, MayEnd, is_status_of};
 ghost use Rattle.layout_commands.specs.Extract.{BreaksRule, HasNetlist};
-ghost use Rattle.run_laws.specs.Extract.{HasNoNetlist, IsBrokenCell, IsExtract, IsExtractedCell, IsRefusedLayout};
-ghost use Rattle.run_laws.specs.Extract.{OfGdsCell, WhereExtractEnds};
+ghost use Rattle.cell_run.specs.Extract.{HasNoNetlist, IsBrokenCell, IsExtract, IsExtractedCell, IsRefusedLayout};
+ghost use Rattle.cell_run.specs.Extract.{OfGdsCell, WhereExtractEnds};
 ghost use Rattle.call_work.specs.Commands.{Agreeing, CheckingLow, read_by};
-ghost use Rattle.run_laws.specs.Ended.{WhereEnds};
-ghost use Rattle.run_laws.specs.From.{FromFile, IfFrom, IsCyclicFrom, IsMadeFrom, IsRefusedFile, IsTallFrom};
-ghost use Rattle.run_laws.specs.From.{IsUnaccepted, OfListed};
-ghost use Rattle.run_laws.specs.Headline.{CanBeDrawn, FromInputs, HasCycle, IsCyclicCell, IsMadeCell, IsOrShort};
-ghost use Rattle.run_laws.specs.Headline.{IsTallCell, IsTooHigh, IsUnmade, MakesNone, OfFirstLeast, WhereMakeEnds};
-ghost use Rattle.run_laws.specs.Low.{DrawsLow, HoldsTracks, IfLow, IsCheckLow, IsCyclicLow, IsMadeLow, IsOpenLow};
-ghost use Rattle.run_laws.specs.Low.{IsProvedLow, IsTallLow};
-ghost use Rattle.run_laws.specs.Origin.{Search};
-ghost use Rattle.run_laws.specs.Plan.{CanBePlanned, IsPlannedRow, IsUnplanned, WherePlanEnds};
-ghost use Rattle.run_laws.specs.Row.{CanBeRowed, IsApartOrShort, IsKeptApart, IsMisreadRow, IsRow, IsRowedLibrary};
-ghost use Rattle.run_laws.specs.Row.{IsStopStatus, IsStoppedRow, IsUnabuttedRow, MayLeaveFile, MayMakeFiles, OfRow};
-ghost use Rattle.run_laws.specs.Row.{WhereRowEnds};
+ghost use Rattle.cell_run.specs.Ended.{WhereEnds};
+ghost use Rattle.cell_run.specs.From.{FromFile, IfFrom, IsCyclicFrom, IsMadeFrom, IsRefusedFile, IsTallFrom};
+ghost use Rattle.cell_run.specs.From.{IsUnaccepted, OfListed};
+ghost use Rattle.cell_run.specs.Headline.{CanBeDrawn, FromInputs, HasCycle, IsCyclicCell, IsMadeCell, IsOrShort};
+ghost use Rattle.cell_run.specs.Headline.{IsTallCell, IsTooHigh, IsUnmade, MakesNone, OfFirstLeast, WhereMakeEnds};
+ghost use Rattle.cell_run.specs.Low.{DrawsFirst, DrawsLow, HoldsTracks, IfLow, IsCheckLow, IsCyclicLow, IsMadeLow};
+ghost use Rattle.cell_run.specs.Low.{IsOpenLow, IsProvedLow, IsTallLow, LeavesGapsOpen};
+ghost use Rattle.cell_run.specs.Origin.{Search};
+ghost use Rattle.cell_run.specs.Plan.{CanBePlanned, IsPlannedRow, IsUnplanned, WherePlanEnds};
+ghost use Rattle.cell_run.specs.Row.{CanBeRowed, IsApartOrShort, IsKeptApart, IsMisreadRow, IsRow, IsRowedLibrary};
+ghost use Rattle.cell_run.specs.Row.{IsStopStatus, IsStoppedRow, IsUnabuttedRow, MayLeaveFile, MayMakeFiles, OfRow};
+ghost use Rattle.cell_run.specs.Row.{WhereRowEnds};
 ghost use Rattle.row_abut.specs.declared.cell.RowFault.{RowFault};
 ghost use Rattle.call_read.specs.Sources.{Lacks};
 ghost use Rattle.call_words.specs.Words.{asked};
@@ -52,7 +52,8 @@ use std::alloc::Global;
 /// `--taps` after CELL the rules are those of cells with taps, and the net of each device's body is reported.
 /// `bench NUMBER` makes that many generated cells in memory, 1 to 200, and reports what came out.
 /// `row TECH SPICE OUT TOP CELL CELL ..` draws 2 to 16 cells as `make` does, and makes the GDSII library `OUT.gds` of
-/// them and of the cell TOP, in which they stand side by side in the words' order.
+/// them and of the cell TOP, in which they are side by side in the words' order. With `--low` as the last word it
+/// draws each of them as `make .. --low` does.
 /// `agree TECH GDS LEF CELL` reports whether the macro of a cell in the LEF file LEF agrees with the cell in the GDSII
 /// file GDS, or the first difference.
 /// With `--trails` as the last word `plan` finds the row with a certificate by trails, `make` makes that, `OUT.ctrail`,
@@ -67,13 +68,11 @@ pub fn run<D: Desk>(alloc: Global, words: &[String], desk: &mut D) -> Status
     ensures ends { (end : EndOf) × MayEnd (D.view desk.old) (D.view desk.new) (asked words.now) end
         × Tells end result (D.view desk.old) (D.view desk.new) }
 
-    // Over files that are told, an end that they call for is reported whole, except ReadFault, WriteFault and
-    // NoMemory.
+    // Over files that are shown, an end that they call for is reported whole (no ReadFault, WriteFault or NoMemory).
     ensures called_for { IfSome (D.view desk.old).given (λ files. IsOfOutside result ⊎ ((end : EndOf)
         × CallsFor files (asked words.now) end × TellsWhole end result (D.view desk.old) (D.view desk.new))) }
 
-    // Over such files, where neither reading nor writing failed, the status is of an end that they call for,
-    // or memory ran out.
+    // Over such files, where neither reading nor writing failed, the status is of such an end, or memory ran out.
     ensures completes { IfCalm (D.view desk.old) (D.view desk.new) (λ files.
         ((end : EndOf) × CallsFor files (asked words.now) end × (result ≡ end.status)) ⊎ (result ≡ status.NoMemory)) }
 
@@ -86,12 +85,11 @@ pub fn run<D: Desk>(alloc: Global, words: &[String], desk: &mut D) -> Status
         ⊎ ((D.view desk.new).said ≡ (D.view desk.old).said) }
     ensures other { IsTrue (is_status_of (asked words.now) result) }
 
-    // A failing call of the desk ends the call: a count is as before wherever the status tells of no such failure.
-    // After a failed read, telling of it may fail in turn, or find no memory.
+    // A failing call of the desk ends the call: a count is as before wherever the status reports no such failure.
+    // After a failed read, the report of it may fail in turn, or find no memory.
     ensures same_reads { (IsOfOutside result → ⊥) → (D.view desk.new).read_faults ≡ (D.view desk.old).read_faults }
     ensures same_writes { result ≢ status.WriteFault → (D.view desk.new).write_faults ≡ (D.view desk.old).write_faults }
     ensures same_shorts { result ≢ status.NoMemory → (D.view desk.new).shorts ≡ (D.view desk.old).shorts }
-
     ensures given { (D.view desk.new).given ≡ (D.view desk.old).given }
     ensures read_count { (D.view desk.old).read_faults ≤ (D.view desk.new).read_faults }
     ensures write_count { (D.view desk.old).write_faults ≤ (D.view desk.new).write_faults }
@@ -156,6 +154,10 @@ pub fn run<D: Desk>(alloc: Global, words: &[String], desk: &mut D) -> Status
     ensures tall_low { IfLow (D.view desk.old) (D.view desk.new) (asked words.now) result status.TooTall IsTallLow }
     ensures spent_low { IfLow (D.view desk.old) (D.view desk.new) (asked words.now) result status.Unfinished IsOpenLow }
     ensures draws_low { EndsSo (D.view desk.old) (D.view desk.new) (asked words.now) result status.Done DrawsLow }
+    // Whatever the budget and the evidence are: of a cell that `make` draws only the first search is left open.
+    ensures keeps_low { IfCalm (D.view desk.old) (D.view desk.new) (λ files.
+        DrawsFirst files (asked words.now) → IsDoneOrShort result
+        ⊎ LeavesGapsOpen files (asked words.now) result (D.view desk.old) (D.view desk.new)) }
 
     // What `plan` reports: the first least row, with evidence that is accepted; or what a search proves that spent its
     // budget, or a gate with too many ways to pair its fingers.
@@ -215,8 +217,9 @@ pub fn run<D: Desk>(alloc: Global, words: &[String], desk: &mut D) -> Status
     // The files that a `make` left agree.
     ensures agrees_made { EndsSo (D.view desk.old) (D.view desk.new) (asked words.now) result status.Done ComparesMade }
 
-    // What `row` leaves: the library of its cells side by side; or why the first cell that is not made has no
-    // drawing, or no inputs; or why its cells do not stand side by side.
+    // What `row` leaves: the library of its cells side by side, each with its first least row, or with `--low` with its
+    // lowest one; or why the first cell that is not made has no drawing, or no inputs; or why its cells can't
+    // be side by side.
     ensures rowed { IfSome (D.view desk.old).given (λ files. WhereRowEnds files (asked words.now) result
         status.Done (λ r out. IsRowedLibrary r out (D.view desk.old) (D.view desk.new))) }
     ensures stopped { (settled : Status) → IsStopStatus settled
@@ -227,7 +230,7 @@ pub fn run<D: Desk>(alloc: Global, words: &[String], desk: &mut D) -> Status
     ensures unabutted { IfSome (D.view desk.old).given (λ files. WhereRowEnds files (asked words.now) result
         status.Row (λ r out. IsUnabuttedRow r (D.view desk.old) (D.view desk.new))) }
 
-    // Where the cells can be made and stand side by side, it is done, or memory ran out; where they can be made and a
+    // Where the cells can be made and be side by side, it is done, or memory ran out; where they can be made and a
     // fault keeps them apart, it ends with 12 and reports that fault, or memory ran out.
     ensures rows { IfCalm (D.view desk.old) (D.view desk.new) (λ files.
         OfRow files (asked words.now) (λ r out. CanBeRowed r) → IsDoneOrShort result) }

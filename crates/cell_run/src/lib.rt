@@ -1,4 +1,4 @@
-// What a call of the program does, on a desk.
+// What a call of the program does, on a desk. What it leaves, by its command and its status, is in the definitions.
 #![tactic(auto)]
 
 mod call;

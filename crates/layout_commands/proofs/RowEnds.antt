@@ -7,11 +7,11 @@ use Rattle.call_end.specs.declared.end.End.{End}
 use Rattle.call_end.specs.declared.status.Status.TheVariants as status
 use Rattle.call_words.specs.Asked.{RowAsked}
 use Rattle.cell_inputs.specs.Inputs.{Inputs}
-use Rattle.cell_inputs.specs.Style.{plain_style}
-use Rattle.cell_make.specs.Making.{MakeAnswer, Makes}
+use Rattle.cell_inputs.specs.declared.style.LeastRow.{LeastRow}
+use Rattle.cell_inputs.specs.declared.style.LeastRow.TheVariants.{First, Lowest}
 use Rattle.cell_num.specs.Names.{lowered}
 use Rattle.cell_num.specs.declared.list.NoMemory.{NoMemory}
-use Rattle.cell_report.specs.Cells.{tall_text}
+use Rattle.cell_report.specs.Cells.{fewest_text, tall_text}
 use Rattle.cell_report.specs.Cycles.{ring_text}
 use Rattle.call_read.specs.declared.refusal.Refusal.{Refusal}
 use Rattle.channel_route.specs.declared.ring.Ring.{Ring}
@@ -22,7 +22,9 @@ use Rattle.call_end.specs.Files.{gds_file}
 use Rattle.cell_report.specs.Unfinished.{unfinished_end}
 use Rattle.row_abut.specs.declared.cell.RowFault.{RowFault}
 use Rattle.cell_make.specs.RowInputs.{RowInputs, row_inputs}
-use Rattle.cell_make.specs.Rowed.{IsRefused, IsRowed, IsStopped, IsUnabutted, IsWritten, MadeCell, Rowed, Refused, Stopped, Unabutted, TellsWhy, row_height, row_width}
+use Rattle.cell_make.specs.Rowed.{IsRefused, IsRowed, IsStopped, IsUnabutted, IsWritten, MadeCell, Rowed, Refused, Stopped, Unabutted, row_height, row_width}
+use Rattle.cell_make.specs.CellOfRow.{StopAnswer, StopsBy, TellsWhy, Unfinished}
+use Rattle.cell_make.specs.Searched.{IsUnfinished}
 use Rattle.cell_make.specs.declared.row_outcome.InputFault.{InputFault}
 use Rattle.cell_make.specs.declared.row_outcome.Undrawn.{Undrawn}
 use Rattle.cell_make.specs.declared.row_outcome.Undrawn.TheVariants as why
@@ -31,8 +33,8 @@ use Rattle.tech_file.specs.Technology.{Technology}
 
 -- ---- what is read
 
-pub row_same : (asked : RowAsked) (tech : Technology) (bytes b top : List ℕ) (names : List (List ℕ)) → b ≡ bytes → top ≡ lowered asked.top → names ≡ map lowered asked.cells → ◌≡◌ {A = Result RowInputs Refusal} (Ok (row_inputs tech b top names)) (Ok (row_of asked tech bytes))
-row_same asked tech bytes b top names p q s = rw (p, q, s) refl
+pub row_same : (asked : RowAsked) (tech : Technology) (bytes b top : List ℕ) (names : List (List ℕ)) (choice : LeastRow) → b ≡ bytes → top ≡ lowered asked.top → names ≡ map lowered asked.cells → choice ≡ asked.choice → ◌≡◌ {A = Result RowInputs Refusal} (Ok (row_inputs tech b top names choice)) (Ok (row_of asked tech bytes))
+row_same asked tech bytes b top names choice p q s t = rw (p, q, s, t) refl
 
 -- ---- ends
 
@@ -50,7 +52,7 @@ pub refused_to : (r : RowInputs) (out : List ℕ) (before : List MadeCell) (name
 refused_to r out before name fault (Err e) h is = tt
 refused_to r out before name fault (Ok end) h is = (Refused before name fault, h, is)
 
-pub stopped_to : (r : RowInputs) (out : List ℕ) (before : List MadeCell) (inputs : Inputs) (answer : MakeAnswer) (got : Result End NoMemory) → IsStopped r before inputs answer → IfOk got (IsStoppedEnd inputs answer) → IfOk got (RowsTo r out)
+pub stopped_to : (r : RowInputs) (out : List ℕ) (before : List MadeCell) (inputs : Inputs) (answer : StopAnswer) (got : Result End NoMemory) → IsStopped r before inputs answer → IfOk got (IsStoppedEnd inputs answer) → IfOk got (RowsTo r out)
 stopped_to r out before inputs answer (Err e) h is = tt
 stopped_to r out before inputs answer (Ok end) h is = (Stopped before inputs answer, h, is)
 
@@ -60,19 +62,28 @@ unabutted_to r out made fault (Ok end) h is = (Unabutted made fault, h, is)
 
 -- ---- a cell that is not drawn
 
-pub can_be_told : (inputs : Inputs) (told : Undrawn) (answer : MakeAnswer) → Makes plain_style inputs answer → TellsWhy inputs told answer → CanBeTold told
-can_be_told inputs (why.Cyclic ring) answer makes is = tt
-can_be_told inputs (why.Tall needed given) answer makes is = tt
-can_be_told inputs (why.Unfinished log proved) answer makes is = spent_fits inputs.fingers inputs.tech.budget proved log (subst (Makes plain_style inputs) is makes).1
+spent_by : (choice : LeastRow) (inputs : Inputs) (proved : ℕ) (log : Log) → StopsBy choice inputs (Unfinished proved log) → IsUnfinished inputs proved log
+spent_by First inputs proved log stops = stops
+spent_by Lowest inputs proved log stops = stops
 
-pub cyclic_stops : (inputs inside : Inputs) (ring : Ring) (got : Result End NoMemory) (answer : MakeAnswer) → inside ≡ inputs → IfOk got (λ end. end ≡ reports status.Cycle (ring_text inside.cell.nets ring)) → TellsWhy inputs (why.Cyclic ring) answer → IfOk got (IsStoppedEnd inputs answer)
+pub can_be_told : (choice : LeastRow) (inputs : Inputs) (told : Undrawn) (answer : StopAnswer) → StopsBy choice inputs answer → TellsWhy inputs told answer → CanBeTold told
+can_be_told choice inputs (why.Cyclic ring) answer stops is = tt
+can_be_told choice inputs (why.Tall needed given) answer stops is = tt
+can_be_told choice inputs (why.Unfinished log proved) answer stops is = spent_fits inputs.fingers inputs.tech.budget proved log (spent_by choice inputs proved log (subst (StopsBy choice inputs) is stops)).1
+can_be_told choice inputs (why.Unwired ring fewest) answer stops is = tt
+
+pub cyclic_stops : (inputs inside : Inputs) (ring : Ring) (got : Result End NoMemory) (answer : StopAnswer) → inside ≡ inputs → IfOk got (λ end. end ≡ reports status.Cycle (ring_text inside.cell.nets ring)) → TellsWhy inputs (why.Cyclic ring) answer → IfOk got (IsStoppedEnd inputs answer)
 cyclic_stops inputs inside ring (Err e) answer same ends told = tt
 cyclic_stops inputs inside ring (Ok end) answer same ends (row, log, is) = rw is (subst (λ (i : Inputs). end ≡ reports status.Cycle (ring_text i.cell.nets ring)) same ends)
 
-pub tall_stops : (inputs : Inputs) (needed given : ℕ) (got : Result End NoMemory) (answer : MakeAnswer) → IfOk got (λ end. end ≡ reports status.TooTall (tall_text needed given)) → TellsWhy inputs (why.Tall needed given) answer → IfOk got (IsStoppedEnd inputs answer)
+pub tall_stops : (inputs : Inputs) (needed given : ℕ) (got : Result End NoMemory) (answer : StopAnswer) → IfOk got (λ end. end ≡ reports status.TooTall (tall_text needed given)) → TellsWhy inputs (why.Tall needed given) answer → IfOk got (IsStoppedEnd inputs answer)
 tall_stops inputs needed given (Err e) answer ends told = tt
 tall_stops inputs needed given (Ok end) answer ends (row, log, routing, is, high, low) = rw (is, sym high, sym low) ends
 
-pub spent_stops : (inputs inside : Inputs) (proved : ℕ) (log : Log) (got : Result End NoMemory) (answer : MakeAnswer) → inside ≡ inputs → IfOk got (λ end. end ≡ unfinished_end inside.cell proved log) → TellsWhy inputs (why.Unfinished log proved) answer → IfOk got (IsStoppedEnd inputs answer)
+pub spent_stops : (inputs inside : Inputs) (proved : ℕ) (log : Log) (got : Result End NoMemory) (answer : StopAnswer) → inside ≡ inputs → IfOk got (λ end. end ≡ unfinished_end inside.cell proved log) → TellsWhy inputs (why.Unfinished log proved) answer → IfOk got (IsStoppedEnd inputs answer)
 spent_stops inputs inside proved log (Err e) answer same ends told = tt
 spent_stops inputs inside proved log (Ok end) answer same ends is = rw is (subst (λ (i : Inputs). end ≡ unfinished_end i.cell proved log) same ends)
+
+pub unwired_stops : (inputs inside : Inputs) (ring : Ring) (fewest : ℕ) (got : Result End NoMemory) (answer : StopAnswer) → inside ≡ inputs → IfOk got (λ end. end ≡ reports status.Unfinished (fewest_text fewest ++ ring_text inside.cell.nets ring)) → TellsWhy inputs (why.Unwired ring fewest) answer → IfOk got (IsStoppedEnd inputs answer)
+unwired_stops inputs inside ring fewest (Err e) answer same ends told = tt
+unwired_stops inputs inside ring fewest (Ok end) answer same ends (row, log, tracks, is, few) = rw (is, sym few) (subst (λ (i : Inputs). end ≡ reports status.Unfinished (fewest_text fewest ++ ring_text i.cell.nets ring)) same ends)

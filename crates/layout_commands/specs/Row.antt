@@ -3,10 +3,9 @@ use Rattle.std.specs.Prelude.{ℕ, ◌≡◌, List, [], ◌∷◌, ◌++◌, map
 use Rattle.bound_log.specs.Fits.{Fits, ForSome}
 use Rattle.cell_draw.specs.Frame.{needed_of}
 use Rattle.cell_inputs.specs.Inputs.{Inputs}
-use Rattle.cell_make.specs.Making.{MakeAnswer, Made, Cyclic, Tall, Unfinished}
 use Rattle.cell_num.specs.Lines.{count_line, pair_line, text_line}
 use Rattle.cell_num.specs.Names.{lowered}
-use Rattle.cell_report.specs.Cells.{tall_text}
+use Rattle.cell_report.specs.Cells.{fewest_text, tall_text}
 use Rattle.cell_report.specs.Cycles.{ring_text}
 use Rattle.call_end.specs.End.{reports, IsEnd}
 use Rattle.call_end.specs.Status.{first_line}
@@ -23,6 +22,7 @@ use Rattle.cell_report.specs.Unfinished.{unfinished_end}
 use Rattle.cell_make.specs.RowInputs.{RowInputs, row_inputs}
 use Rattle.cell_make.specs.Rowed.{RowAnswer, Rowed, Refused, Stopped, Unabutted, Rows, row_height, row_library}
 use Rattle.cell_make.specs.Rowed.{row_width}
+use Rattle.cell_make.specs.CellOfRow.{StopAnswer, Cyclic, Tall, Unfinished, Unwired}
 use Rattle.cell_make.specs.declared.row_outcome.InputFault.{InputFault}
 use Rattle.cell_make.specs.declared.row_outcome.InputFault.TheVariants.{Spice, Fold}
 use Rattle.cell_make.specs.declared.row_outcome.Undrawn.{Undrawn}
@@ -32,7 +32,7 @@ use Rattle.tech_file.specs.Technology.{Technology}
 -- ---- what is read: the technology, then the SPICE file, whose cells are looked at one by one when they are made
 
 abbrev pub row_of : RowAsked → Technology → List ℕ → RowInputs
-row_of asked tech bytes = row_inputs tech bytes (lowered asked.top) (map lowered asked.cells)
+row_of asked tech bytes = row_inputs tech bytes (lowered asked.top) (map lowered asked.cells) asked.choice
 
 abbrev pub rowing_over : RowAsked → Technology → Reading RowInputs
 rowing_over asked tech = bytes_of (SpiceFile asked.spice) >>= λ bytes. Ends (Ok (row_of asked tech bytes))
@@ -53,12 +53,13 @@ input_end (Spice f) = reports status.Input (fault_line (codes "spice") (spice_fa
 input_end (Fold f) = reports status.Input (fault_line (codes "fold") (fold_fault f))
 
 -- a cell that can't be drawn ends the row as it ends a drawing, without files; a log is reported as by a plan
-abbrev pub IsStoppedEnd : Inputs → MakeAnswer → End → Type 0
-IsStoppedEnd inputs (Made row log routing xs) end = ⊥
+abbrev pub IsStoppedEnd : Inputs → StopAnswer → End → Type 0
 IsStoppedEnd inputs (Cyclic row log ring) end = end ≡ reports status.Cycle (ring_text inputs.cell.nets ring)
 IsStoppedEnd inputs (Tall row log routing) end =
     end ≡ reports status.TooTall (tall_text (needed_of row routing.tracks) inputs.tech.height)
 IsStoppedEnd inputs (Unfinished proved log) end = end ≡ unfinished_end inputs.cell proved log
+IsStoppedEnd inputs (Unwired row log tracks ring) end =
+    end ≡ reports status.Unfinished (fewest_text tracks.tracks ++ ring_text inputs.cell.nets ring)
 
 -- the library is the one file of a row
 abbrev pub IsRowEnd : RowInputs → List ℕ → RowAnswer → End → Type 0
@@ -77,3 +78,4 @@ abbrev pub CanBeTold : Undrawn → Type 0
 CanBeTold (why.Cyclic ring) = Unit {0}
 CanBeTold (why.Tall needed given) = Unit {0}
 CanBeTold (why.Unfinished log proved) = ForSome (λ k. Fits k log)
+CanBeTold (why.Unwired ring fewest) = Unit {0}

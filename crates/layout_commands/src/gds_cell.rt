@@ -12,7 +12,7 @@ use scmos_rules::Deck;
 use std::alloc::Global;
 use tech_file::Tech;
 
-/// A cell of a GDSII file: its name as it stands there, what it draws, and the deck that it is checked by.
+/// A cell of a GDSII file: its name as it is written there, what it draws, and the deck that it is checked by.
 #[derive(Drop)]
 pub struct GdsCell {
     pub name: Name,

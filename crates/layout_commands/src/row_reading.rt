@@ -29,6 +29,7 @@ fn read_over<D: Desk>(
         spice: spice.into_bytes(),
         top,
         names,
+        choice: asked.choice,
     })
 }
 

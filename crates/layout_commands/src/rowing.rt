@@ -2,20 +2,22 @@ ghost use Rattle.std.specs.Prelude.{◌≡◌, ◌++◌, [], ◌∷◌, codes, l
 ghost use Rattle.call_end.specs.End.{reports, IsEnd};
 ghost use Rattle.call_end.specs.Status.{first_line};
 ghost use Rattle.call_end.specs.declared.status.Status.TheVariants as status;
-ghost use Rattle.cell_make.specs.Making.{MakeAnswer};
-ghost use Rattle.cell_report.specs.Cells.{tall_text};
+ghost use Rattle.cell_report.specs.Cells.{fewest_text, tall_text};
 ghost use Rattle.cell_report.specs.Cycles.{ring_text};
 ghost use Rattle.cell_report.specs.Faults.{fault_line};
 ghost use Rattle.cell_report.specs.RowFaults.{row_fault};
 ghost use Rattle.call_end.specs.Files.{gds_file};
-ghost use Rattle.cell_make.specs.Rowed.{ComesToRow, TellsWhy};
+ghost use Rattle.cell_make.specs.CellOfRow.{StopAnswer, TellsWhy};
+ghost use Rattle.cell_make.specs.Rowed.{ComesToRow};
 ghost use Rattle.layout_commands.specs.Row.{CanBeTold, IsStoppedEnd, RowsTo, input_end, row_text};
 
 use call_end::{End, Output, Status, Stem};
 use cell_inputs::Inputs;
 use cell_make::{InputFault, RowInputs, RowOutcome, Undrawn};
 use cell_num::{Bytes, Name, NoMemory, put_count, put_pair, put_text};
-use cell_report::{cycle_report, log_unfinished, put_fold, put_row_fault, put_spice, tall_report};
+use cell_report::{
+    cycle_report, log_unfinished, open_ring_report, put_fold, put_row_fault, put_spice, tall_report,
+};
 use channel_route::Ring;
 use log_output::Content;
 use row_abut::RowFault;
@@ -91,17 +93,26 @@ fn tall(alloc: Global, needed: u32, given: u32) -> Result<End, NoMemory>
     Ok(End::says(alloc, Status::TooTall, report))
 }
 
+fn unwired(alloc: Global, cell: &Subckt, fewest: u32, ring: &Ring) -> Result<End, NoMemory>
+    ensures { IfOk result (λ end. end
+        ≡ reports status.Unfinished (fewest_text fewest ++ ring_text cell.now.nets ring.now)) }
+{
+    let report = open_ring_report(alloc, &cell.nets, fewest, ring)?;
+    Ok(End::says(alloc, Status::Unfinished, report))
+}
+
 // The end of a cell that is not drawn, without files.
 #[tactic(auto, using(cell_inputs::proofs::Names::log_name))]
 fn stopped(alloc: Global, inputs: &Inputs, why: Undrawn) -> Result<End, NoMemory>
     requires { CanBeTold why }
-    ensures { (answer : MakeAnswer) → TellsWhy inputs.now why answer → IfOk result (IsStoppedEnd inputs.now answer) }
+    ensures { (answer : StopAnswer) → TellsWhy inputs.now why answer → IfOk result (IsStoppedEnd inputs.now answer) }
 {
     inputs.show_limits();
     match why {
         Undrawn::Cyclic { ring } => cyclic(alloc, &inputs.cell, &ring),
         Undrawn::Tall { needed, given } => tall(alloc, needed, given),
         Undrawn::Unfinished { log, proved } => log_unfinished(alloc, &inputs.cell, log, proved),
+        Undrawn::Unwired { ring, fewest } => unwired(alloc, &inputs.cell, fewest, &ring),
     }
 }
 
@@ -122,7 +133,7 @@ fn end_of(alloc: Global, row: &RowInputs, stem: &Stem, outcome: RowOutcome) -> R
     }
 }
 
-/// The library of a row of cells; or the first cell that is not made, and why; or why they do not stand side by side.
+/// The library of a row of cells; or the first cell that is not made, and why; or why they can't be side by side.
 pub fn row(alloc: Global, row: &RowInputs, stem: &Stem) -> Result<End, NoMemory>
     ensures { IfOk result (RowsTo row.now stem.now) }
 {

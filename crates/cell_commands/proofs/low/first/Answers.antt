@@ -3,7 +3,7 @@ use Rattle.cell_commands.specs.Evidence.{shown}
 use Rattle.cell_commands.specs.Relisted.{kind_of}
 use Rattle.cell_commands.proofs.Ended.{found_arranges, found_fits, short_row}
 use Rattle.cell_commands.proofs.Named.{inside_named}
-use Rattle.cell_commands.proofs.Lows.{evidence_of, first_ends}
+use Rattle.cell_commands.proofs.Lows.{evidence_of, first_ends, first_there, found_first}
 use Rattle.cell_commands.proofs.low.first.Goals as goal
 
 pub low_evidence-requires-clause-name : goal.low_evidence-requires-clause-name
@@ -27,4 +27,5 @@ pub returns : goal.returns
 returns c =
     first_ends (kind_of c.args.certificate) c.args.taps c.args.inputs.now c.args.stem.now c.args.row.now c.args.certificate c.args.tracks.now c.args.none_wired c.in_ok-came.came (shown c.in_ok-evidence.evidence) c.first_end-end.result
     (evidence_of (inputs_of c.inputs.inside.tech c.inputs.inside.cell c.inputs.inside.fingers) c.args.inputs.now c.args.stem.now c.args.certificate c.args.tracks.now (shown c.in_ok-evidence.evidence) c.inputs.view_is c.in_ok-evidence.ensures)
-    c.requires.proves c.requires.open c.requires.found c.in_ok-came.ensures.comes c.first_end-end.ensures
+    c.requires.proves (first_there c.args.inputs.now c.args.row.now c.show_limits.ensures (found_first (kind_of c.args.certificate) c.args.inputs.now c.args.row.now c.args.certificate c.requires.found))
+    c.requires.open c.requires.found c.in_ok-came.ensures.comes c.first_end-end.ensures

@@ -10,7 +10,7 @@ use Rattle.cell_commands.specs.Evidence.{shown}
 use Rattle.cell_commands.specs.Relisted.{kind_of}
 use Rattle.cell_commands.proofs.Ended.{short_row}
 use Rattle.cell_commands.proofs.Named.{inside_named}
-use Rattle.cell_commands.proofs.Lows.{certified_fits, evidence_of, lowest_made, relisted_for}
+use Rattle.cell_commands.proofs.Lows.{certified_fits, evidence_of, found_there, lowest_made, relisted_for}
 use Rattle.cell_commands.proofs.low.lowest.Goals as goal
 
 pub relisted-requires : goal.relisted-requires
@@ -52,4 +52,5 @@ returns c =
     (evidence_of (inputs_of c.inputs.inside.tech c.inputs.inside.cell c.inputs.inside.fingers) c.args.inputs.now c.args.stem.now c.in_ok-listing.listing c.args.tracks.now (shown c.in_ok-evidence.evidence) c.inputs.view_is c.in_ok-evidence.ensures)
     c.requires.proves
     (relisted_for c.args.inputs.now c.args.placement.row c.args.certificate c.in_ok-listing.listing c.requires.found c.requires.lowest.least c.in_ok-listing.ensures)
+    (found_there c.args.inputs.now c.args.certificate c.show_limits.ensures c.requires.found)
     c.requires.lowest c.in_ok-came.ensures.wired c.in_ok-came.ensures.comes c.row_end-end.ensures

@@ -9,14 +9,14 @@ use Rattle.cell_commands.proofs.searched.by_trails.Goals as goal
 pub returns-in-Ok : goal.returns-in-Ok
 returns-in-Ok c =
     let inside : Inputs = inputs_of c.inputs.inside.tech c.inputs.inside.cell c.inputs.inside.fingers in
-    (c.in-Ok.found.nodes, of_inputs (λ (f : Fingers) (b : ℕ). IsTrailFound f b c.in-Ok.found.row c.in-Ok.found.trails c.in-Ok.found.nodes) inside c.args.inputs.now c.budget.result c.inputs.view_is c.budget.ensures.is c.in-Ok.ensures.found)
+    of_inputs (λ (f : Fingers) (b : ℕ). IsTrailFound f b c.in-Ok.found.row c.in-Ok.found.trails) inside c.args.inputs.now c.budget.result c.inputs.view_is c.budget.ensures.is c.in-Ok.ensures.found
 
 pub returns-in-Err-Unfinished : goal.returns-in-Err-Unfinished
 returns-in-Err-Unfinished c =
     let inside : Inputs = inputs_of c.inputs.inside.tech c.inputs.inside.cell c.inputs.inside.fingers in
-    let spent : IsTrailSpent c.inputs.inside.fingers c.budget.result c.in-Err-Unfinished.trails c.in-Err-Unfinished.proved c.in-Err-Unfinished.field-0-2 =
+    let spent : IsTrailSpent c.inputs.inside.fingers c.budget.result c.in-Err-Unfinished.trails c.in-Err-Unfinished.proved =
     subst (λ (s : TrailStop). Stops c.inputs.inside.fingers c.budget.result s) c.in-Err-Unfinished.field-0-is c.in-Err-Unfinished.ensures.stopped in
-    (c.in-Err-Unfinished.field-0-2, of_inputs (λ (f : Fingers) (b : ℕ). IsTrailSpent f b c.in-Err-Unfinished.trails c.in-Err-Unfinished.proved c.in-Err-Unfinished.field-0-2) inside c.args.inputs.now c.budget.result c.inputs.view_is c.budget.ensures.is spent)
+    of_inputs (λ (f : Fingers) (b : ℕ). IsTrailSpent f b c.in-Err-Unfinished.trails c.in-Err-Unfinished.proved) inside c.args.inputs.now c.budget.result c.inputs.view_is c.budget.ensures.is spent
 
 pub returns-in-Err-Choices : goal.returns-in-Err-Choices
 returns-in-Err-Choices c =

@@ -1,31 +1,31 @@
-use Rattle.std.proofs.Common.{◌∙◌}
-use Rattle.cell_make.proofs.MadeCells.{drawn_so, low_tracks, made_of, ready_so, row_widths, same_cell}
-use Rattle.cell_make.specs.Rowed.{row_cell}
+use Rattle.std.proofs.Common.{◌≡◌, ◌∙◌, ap, sym}
+use Rattle.std.proofs.lemmas.Result.{IfErr-weaker, IfOk-weaker}
+use Rattle.cell_inputs.specs.declared.style.LeastRow.TheVariants.{First, Lowest}
+use Rattle.cell_make.proofs.CellBy.{cell_so, stop_so}
+use Rattle.cell_make.specs.RowInputs.{RowInputs}
+use Rattle.cell_make.specs.RowSteps.{IsCellBy, IsCellOf, IsStop, IsStopBy}
 use Rattle.cell_make.proofs.row_cell.made_cell.Goals as goal
 
-pub row_cell-cell-requires-clause-widths : goal.row_cell-cell-requires-clause-widths
-row_cell-cell-requires-clause-widths c =
-    row_widths c.args.row.now (made_of c.in_ok-inputs.inputs c.in-Made.placement c.in-Made.log c.in-Made.routing c.in-Made.drawn)
-    (ready_so c.args.row.now c.in_ok-inputs.inputs c.plain.result c.in_ok-outcome.outcome c.in-Made.placement c.in-Made.log c.in-Made.routing c.in-Made.drawn
-    c.plain.ensures c.in-Made.is c.show_limits.ensures c.in_ok-inputs.ensures.inputs c.in_ok-outcome.ensures.comes c.in_ok-outcome.ensures.written c.in_ok-outcome.ensures.extent)
+pub returns-in-First-clause-made : goal.returns-in-First-clause-made
+returns-in-First-clause-made c =
+    let chosen : c.args.row.now.choice ≡ First = sym (ap (λ (r : RowInputs). r.choice) c.row.view_is) ∙ c.in-First.is in
+    IfOk-weaker c.first_cell.result (IsCellBy First c.in_ok-inputs.inputs) (IsCellOf c.args.row.now c.args.name.now)
+    (λ cell h. cell_so c.args.row.now First c.in_ok-inputs.inputs c.args.name.now cell chosen c.in_ok-inputs.ensures.inputs c.in_ok-inputs.ensures.name h) c.first_cell.ensures.made
 
-pub row_cell-cell-requires-clause-tracks : goal.row_cell-cell-requires-clause-tracks
-row_cell-cell-requires-clause-tracks c =
-    low_tracks c.args.row.now (made_of c.in_ok-inputs.inputs c.in-Made.placement c.in-Made.log c.in-Made.routing c.in-Made.drawn)
-    (ready_so c.args.row.now c.in_ok-inputs.inputs c.plain.result c.in_ok-outcome.outcome c.in-Made.placement c.in-Made.log c.in-Made.routing c.in-Made.drawn
-    c.plain.ensures c.in-Made.is c.show_limits.ensures c.in_ok-inputs.ensures.inputs c.in_ok-outcome.ensures.comes c.in_ok-outcome.ensures.written c.in_ok-outcome.ensures.extent)
+pub returns-in-First-clause-stops : goal.returns-in-First-clause-stops
+returns-in-First-clause-stops c =
+    let chosen : c.args.row.now.choice ≡ First = sym (ap (λ (r : RowInputs). r.choice) c.row.view_is) ∙ c.in-First.is in
+    IfErr-weaker c.first_cell.result (IsStopBy First c.in_ok-inputs.inputs) (IsStop c.args.row.now c.args.name.now)
+    (λ stop h. stop_so c.args.row.now First c.in_ok-inputs.inputs c.args.name.now stop chosen c.in_ok-inputs.ensures.inputs c.in_ok-inputs.ensures.name h) c.first_cell.ensures.stops
 
-pub returns-in-Made-clause-made : goal.returns-in-Made-clause-made
-returns-in-Made-clause-made c =
-    let m = made_of c.in_ok-inputs.inputs c.in-Made.placement c.in-Made.log c.in-Made.routing c.in-Made.drawn in
-    let ready = ready_so c.args.row.now c.in_ok-inputs.inputs c.plain.result c.in_ok-outcome.outcome c.in-Made.placement c.in-Made.log c.in-Made.routing c.in-Made.drawn
-    c.plain.ensures c.in-Made.is c.show_limits.ensures c.in_ok-inputs.ensures.inputs c.in_ok-outcome.ensures.comes c.in_ok-outcome.ensures.written c.in_ok-outcome.ensures.extent in
-    record {
-      m = m;
-      is = ready.is;
-      sound = ready.sound;
-      named = c.in_ok-inputs.ensures.name;
-      cell = same_cell c.row_cell-cell.result (row_cell m) c.row_cell-cell.ensures.name c.row_cell-cell.ensures.nets c.row_cell-cell.ensures.pins
-          (c.row_cell-cell.ensures.drawing ∙ drawn_so c.in_ok-inputs.inputs c.plain.result c.in_ok-outcome.outcome c.in-Made.placement c.in-Made.log c.in-Made.routing c.in-Made.drawn c.plain.ensures c.in-Made.is c.in_ok-outcome.ensures.comes)
-          c.row_cell-cell.ensures.n c.row_cell-cell.ensures.p;
-    }
+pub returns-in-Lowest-clause-made : goal.returns-in-Lowest-clause-made
+returns-in-Lowest-clause-made c =
+    let chosen : c.args.row.now.choice ≡ Lowest = sym (ap (λ (r : RowInputs). r.choice) c.row.view_is) ∙ c.in-Lowest.is in
+    IfOk-weaker c.lowest_cell.result (IsCellBy Lowest c.in_ok-inputs.inputs) (IsCellOf c.args.row.now c.args.name.now)
+    (λ cell h. cell_so c.args.row.now Lowest c.in_ok-inputs.inputs c.args.name.now cell chosen c.in_ok-inputs.ensures.inputs c.in_ok-inputs.ensures.name h) c.lowest_cell.ensures.made
+
+pub returns-in-Lowest-clause-stops : goal.returns-in-Lowest-clause-stops
+returns-in-Lowest-clause-stops c =
+    let chosen : c.args.row.now.choice ≡ Lowest = sym (ap (λ (r : RowInputs). r.choice) c.row.view_is) ∙ c.in-Lowest.is in
+    IfErr-weaker c.lowest_cell.result (IsStopBy Lowest c.in_ok-inputs.inputs) (IsStop c.args.row.now c.args.name.now)
+    (λ stop h. stop_so c.args.row.now Lowest c.in_ok-inputs.inputs c.args.name.now stop chosen c.in_ok-inputs.ensures.inputs c.in_ok-inputs.ensures.name h) c.lowest_cell.ensures.stops

@@ -1,20 +1,21 @@
 use Rattle.std.proofs.Common.{arith, refl, ◌∙◌}
 use Rattle.call_end.specs.declared.status.Status.TheVariants as status
 use Rattle.call_words.specs.Words.{asked}
-use Rattle.run_laws.proofs.AgreeTold.{agreed_told, agrees_told, disagreed_told, disagrees_told, unextracted_told, unextracts_told}
-use Rattle.run_laws.proofs.BenchTold.{benched_told, benches_told}
-use Rattle.run_laws.proofs.Created.{once_told}
-use Rattle.run_laws.proofs.ExtractTold.{breaks_told, broken_told, extracted_told, extracts_told, layout_faults_told, layout_told}
-use Rattle.run_laws.proofs.FromTold.{from_draws_told, from_leaves, from_meets_told, from_needs_told, from_refuses_told}
-use Rattle.run_laws.proofs.LowChecked.{low_accepts_told, low_checked_told, low_proved_told}
-use Rattle.run_laws.proofs.LowTold.{low_draws_told, low_leaves}
-use Rattle.run_laws.proofs.MadeCompared.{agrees_made_told}
-use Rattle.run_laws.proofs.MakeTold.{draws_told, make_leaves, meets_told, needs_told}
-use Rattle.run_laws.proofs.PlanTold.{accepts_told, checked_told, planned_told, plans_told, unplanned_told}
-use Rattle.run_laws.proofs.RowSettled.{rows_told, unabuts_told}
-use Rattle.run_laws.proofs.RowTold.{misread_told, rowed_told, stopped_told, unabutted_told}
-use Rattle.run_laws.proofs.Unmade.{none_told, unmade_told}
-use Rattle.run_laws.proofs.Telling.{alone_told, answers, called_for_told, completes_told, made_told, memory_told, read_told, same_reads_told, status_told, usage_told, write_told}
+use Rattle.cell_run.proofs.AgreeTold.{agreed_told, agrees_told, disagreed_told, disagrees_told, unextracted_told, unextracts_told}
+use Rattle.cell_run.proofs.BenchTold.{benched_told, benches_told}
+use Rattle.cell_run.proofs.Created.{once_told}
+use Rattle.cell_run.proofs.ExtractTold.{breaks_told, broken_told, extracted_told, extracts_told, layout_faults_told, layout_told}
+use Rattle.cell_run.proofs.FromTold.{from_draws_told, from_leaves, from_meets_told, from_needs_told, from_refuses_told}
+use Rattle.cell_run.proofs.LowChecked.{low_accepts_told, low_checked_told, low_proved_told}
+use Rattle.cell_run.proofs.LowDraws.{low_draws_told, low_keeps_told}
+use Rattle.cell_run.proofs.LowTold.{low_leaves}
+use Rattle.cell_run.proofs.MadeCompared.{agrees_made_told}
+use Rattle.cell_run.proofs.MakeTold.{draws_told, make_leaves, meets_told, needs_told}
+use Rattle.cell_run.proofs.PlanTold.{accepts_told, checked_told, planned_told, plans_told, unplanned_told}
+use Rattle.cell_run.proofs.RowSettled.{rows_told, unabuts_told}
+use Rattle.cell_run.proofs.RowTold.{misread_told, rowed_told, stopped_told, unabutted_told}
+use Rattle.cell_run.proofs.Unmade.{none_told, unmade_told}
+use Rattle.cell_run.proofs.Telling.{alone_told, answers, called_for_told, completes_told, made_told, memory_told, read_told, same_reads_told, status_told, usage_told, write_told}
 use Rattle.cell_run.proofs.call.run.Goals as goal
 
 pub returns-clause-ends : goal.returns-clause-ends
@@ -218,6 +219,9 @@ returns-clause-spent_low g c = low_leaves status.Unfinished (g.D.Desk.view c.arg
 
 pub returns-clause-draws_low : goal.returns-clause-draws_low
 returns-clause-draws_low g c = low_draws_told (g.D.Desk.view c.args.desk.now) (g.D.Desk.view c.deliver.new.desk) (asked c.args.words.now) c.deliver.result (g.D.Desk.view c.args.desk.now).given (returns-clause-completes g c)
+
+pub returns-clause-keeps_low : goal.returns-clause-keeps_low
+returns-clause-keeps_low g c = low_keeps_told (g.D.Desk.view c.args.desk.now) (g.D.Desk.view c.deliver.new.desk) (asked c.args.words.now) c.deliver.result (g.D.Desk.view c.args.desk.now).given (returns-clause-completes g c) (returns-clause-called_for g c)
 
 pub returns-clause-checked_low : goal.returns-clause-checked_low
 returns-clause-checked_low g c = low_checked_told (g.D.Desk.view c.args.desk.now) (g.D.Desk.view c.deliver.new.desk) (asked c.args.words.now) c.deliver.result (g.D.Desk.view c.args.desk.now).given (returns-clause-called_for g c)

@@ -2,7 +2,7 @@ use Rattle.std.proofs.Common.{◌∙◌, ap}
 use Rattle.call_end.specs.declared.status.Status.TheVariants as status
 use Rattle.call_end.specs.End.{says}
 use Rattle.call_words.specs.Words.{asked}
-use Rattle.run_laws.proofs.Ends.{short_end, short_reads}
+use Rattle.cell_run.proofs.Ends.{short_end, short_reads}
 use Rattle.cell_run.proofs.prepare.prepare.Goals as goal
 
 pub returns-in-Err-clause-ends : goal.returns-in-Err-clause-ends

@@ -44,4 +44,4 @@ returns-clause-comes g c =
     (only_refl (g.D.Desk.view c.read_file.new.desk))
     (came_bytes (g.D.Desk.view c.args.desk.now) (g.D.Desk.view c.read_file.new.desk) (SpiceFile c.args.asked.now.spice) c.read_file.result (subst (λ (spice : List ℕ). IsRead (g.D.Desk.view c.args.desk.now) (g.D.Desk.view c.read_file.new.desk) (SpiceFile spice) c.read_file.result) (ap (λ (x : RowAsked). x.spice) c.asked.view_is) c.read_file.ensures.reads))
     c.in_ok-spice.was
-    (inl (row_same c.args.asked.now c.args.tech c.in_ok-spice.spice c.into_bytes.result c.in_ok-top.top c.in_ok-names.names c.into_bytes.ensures.bytes c.in_ok-top.ensures.lower c.in_ok-names.ensures.lower))
+    (inl (row_same c.args.asked.now c.args.tech c.in_ok-spice.spice c.into_bytes.result c.in_ok-top.top c.in_ok-names.names c.asked.inside.choice c.into_bytes.ensures.bytes c.in_ok-top.ensures.lower c.in_ok-names.ensures.lower (ap (λ (x : RowAsked). x.choice) c.asked.view_is)))

@@ -7,7 +7,7 @@ use Rattle.layout_commands.proofs.rowing.end_of.Goals as goal
 pub stopped-requires : goal.stopped-requires
 stopped-requires c =
     let comes : ComesToRow c.args.row.now (outcome.Stopped c.in-Stopped.inputs c.in-Stopped.why) = subst (ComesToRow c.args.row.now) c.in-Stopped.is c.requires in
-    can_be_told c.in-Stopped.inputs c.in-Stopped.why comes.1 comes.2.makes comes.3
+    can_be_told c.args.row.now.choice c.in-Stopped.inputs c.in-Stopped.why comes.1 comes.2.stops comes.3
 
 pub returns-in-Rowed : goal.returns-in-Rowed
 returns-in-Rowed c =

@@ -27,6 +27,7 @@ returns c =
       routing = c.in_ok-lowest.ensures.routing;
       certified = c.in_ok-lowest.ensures.certified;
       fits = c.in_ok-lowest.ensures.fits;
+      kept = c.in_ok-lowest.ensures.kept;
       most = c.in_ok-lowest.ensures.most;
       spent = c.in_ok-lowest.ensures.open;
     })

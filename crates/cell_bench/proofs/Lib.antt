@@ -1,3 +1,0 @@
-mod Examples
-pub mod Drawn
-pub mod Lengths

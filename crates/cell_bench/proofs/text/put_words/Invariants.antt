@@ -1,7 +1,0 @@
-use Rattle.std.proofs.Common.{◌≡◌, ◌++◌, take}
-use Rattle.std.specs.List.{flat_map}
-use Rattle.cell_bench.specs.Text.{word_text}
-use Rattle.cell_bench.proofs.text.put_words.Given as goal
-
-abbrev pub invariant-loop-net : goal.invariant-loop-net
-invariant-loop-net l = l.out ≡ l.fn.out ++ flat_map word_text (take l.net-index l.nets)

@@ -1,7 +1,0 @@
-use Rattle.std.proofs.Common.{◌≡◌, ◌++◌, drop}
-use Rattle.std.specs.List.{enumerate_from, flat_map}
-use Rattle.cell_bench.specs.Cells.{stage_transistors, transistors_of}
-use Rattle.cell_bench.proofs.transistor.transistors.Given as goal
-
-abbrev pub invariant-stages : goal.invariant-stages
-invariant-stages l = l.found ++ flat_map stage_transistors (enumerate_from l.place (drop l.place l.stages)) ≡ transistors_of l.stages

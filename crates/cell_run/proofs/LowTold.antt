@@ -1,0 +1,171 @@
+-- What the top call owes of `make` with `--low`, from the end that the files call for and how it was told.
+use Rattle.std.proofs.Common.{ℕ, ◌≡◌, ◌⊎◌, true, List, Option, Some, None, Result, Ok, IfSome, inl, inr, ap, sym, subst, ◌∙◌}
+use Rattle.cell_io.specs.Desk.{Files, View}
+use Rattle.cell_num.proofs.Lists.{some_same}
+use Rattle.row_model.specs.declared.column.Column.{Column}
+use Rattle.row_place.specs.Places.{placement_of}
+use Rattle.channel_route.specs.declared.ring.Ring.{Ring}
+use Rattle.channel_route.specs.declared.routing.Routing.{Routing}
+use Rattle.track_log.specs.declared.certificate.TrackCertificate.{TrackCertificate}
+use Rattle.call_end.specs.declared.end.End.{End}
+use Rattle.call_end.specs.declared.status.Status.{Status}
+use Rattle.call_end.specs.declared.status.Status.TheVariants as status
+use Rattle.call_end.specs.Deliver.{TellsWhole}
+use Rattle.call_read.specs.declared.refusal.Refusal.{Refusal}
+use Rattle.call_read.specs.InputFiles.{inputs_from}
+use Rattle.call_read.specs.Reading.{Ends, called}
+use Rattle.call_read.proofs.Asked.{asked_name, called_parts}
+use Rattle.call_words.specs.Asked.{CellAsked}
+use Rattle.call_words.specs.Words.{Form, MakeLow}
+use Rattle.call_words.specs.declared.evidence.Evidence.{Evidence}
+use Rattle.call_words.specs.declared.evidence.Evidence.TheVariants.{Log, Trails}
+use Rattle.call_work.proofs.EachCommand.{is_make_low}
+use Rattle.call_work.specs.Commands.{Material, MakingLow, gathered, making_low}
+use Rattle.call_work.specs.Ends.{is_among}
+use Rattle.call_work.specs.declared.material.LowMaterial.{LowMaterial}
+use Rattle.cell_inputs.specs.declared.style.Taps.{Taps}
+use Rattle.cell_inputs.specs.Inputs.{Inputs}
+use Rattle.cell_make.proofs.Rings.{ring_is}
+use Rattle.cell_make.specs.Low.{DrawsLow, IsLeast, IsLowRouted, IsLowStop, IsTrackSpent, ProvesTracks, low_style}
+use Rattle.cell_make.specs.Rows.{DrawAnswer, RowDrawn, RowCyclic, RowTall}
+use Rattle.cell_make.specs.Style.{IsToldRing}
+use Rattle.cell_commands.specs.declared.certificate.Certificate.{Certificate}
+use Rattle.cell_commands.specs.declared.certificate.Certificate.TheVariants as held
+use Rattle.cell_commands.specs.Low.{IsUnwiredEnd, MakesLowTo, low_evidence}
+use Rattle.cell_commands.specs.Low as low
+use Rattle.cell_commands.proofs.Lows.{first_least}
+use Rattle.cell_commands.specs.RowEnd.{IsRowEnd}
+use Rattle.cell_commands.specs.Searched.{IsCertifiedBy, IsFoundBy}
+use Rattle.cell_run.proofs.MadeFiles.{none_drawn}
+use Rattle.cell_run.proofs.MakeSettled.{IsDrawnBy, IsRowRouted, IsStopBy, by_end, crowded_so, open_so, row_leaves, said_so}
+use Rattle.cell_run.proofs.Worked.{IsAnswered, ends_told, work_statuses}
+use Rattle.cell_run.specs.Ended.{WhereEnds}
+use Rattle.cell_run.specs.Evidence.{evidence_text}
+use Rattle.cell_run.specs.Headline.{IsCyclicCell, IsMadeCell, IsTallCell, IsUnmade}
+use Rattle.cell_run.specs.Low.{IsAskedLow, IsMakeLow, IsUnwiredCell}
+use Rattle.cell_run.specs.Origin.{Low}
+
+-- ---- what the words ask for
+
+-- the material of such a drawing, where it is one
+abbrev low_of : Result Material Refusal → Option LowMaterial
+low_of (Ok (MakingLow, m)) = Some m
+low_of _ = None
+
+words_for : (files : Files) (asked : CellAsked) (out : List ℕ) (taps : Taps) (evidence : Evidence) (m : LowMaterial) → called files (gathered (Some (MakeLow asked out taps evidence))) ≡ Ok (MakingLow, m) → IsAskedLow (Some (MakeLow asked out taps evidence)) m
+words_for files asked out taps evidence m got =
+    let read = called_parts files (inputs_from asked) (λ i. Ends (Ok (making_low evidence out taps i))) (MakingLow, m) got in
+    let same : (making_low evidence out taps read.0).1 ≡ m = some_same (making_low evidence out taps read.0).1 m (ap low_of read.2) in
+    record {
+      asked = asked;
+      words = ap (λ (x : LowMaterial). Some (MakeLow asked x.stem x.taps x.evidence)) same;
+      name = ap (λ (x : LowMaterial). x.inputs.cell.name) (sym same) ∙ asked_name files asked read.0 read.1;
+    }
+
+asked_so : (files : Files) (form : Form) (m : LowMaterial) → (asked : CellAsked) × (out : List ℕ) × (taps : Taps) × (evidence : Evidence) × (form ≡ MakeLow asked out taps evidence) → called files (gathered (Some form)) ≡ Ok (MakingLow, m) → IsAskedLow (Some form) m
+asked_so files form m (asked, out, taps, evidence, is) got =
+    subst (λ (f : Form). IsAskedLow (Some f) m) (sym is)
+    (words_for files asked out taps evidence m (subst (λ (f : Form). called files (gathered (Some f)) ≡ Ok (MakingLow, m)) is got))
+
+asked_for : (files : Files) (form : Option Form) (m : LowMaterial) → IsMakeLow form → called files (gathered form) ≡ Ok (MakingLow, m) → IsAskedLow form m
+asked_for files None m make got = absurd make
+asked_for files (Some form) m make got = asked_so files form m (is_make_low form make) got
+
+asked_told : (form : Option Form) (answer settled : Status) (Says : LowMaterial → Type 0) (given : Option Files) → IfSome given (λ files. WhereEnds MakingLow files form answer settled Says) → IfSome given (λ files. WhereEnds MakingLow files form answer settled (λ m. IsAskedLow form m × Says m))
+asked_told form answer settled Says None told = tt
+asked_told form answer settled Says (Some files) told = λ make is.
+    let (m, comes, says) = told make is in
+    (m, comes, (asked_for files form m make comes, says))
+
+-- ---- the row, by what drawing it results in
+
+low_routed : (evidence : Evidence) (taps : Taps) (inputs : Inputs) (row : List Column) (tracks : TrackCertificate) (routing : Routing) → IsLowRouted (low_style taps) inputs row tracks routing → IsRowRouted (Low evidence tracks) (low_style taps) inputs row routing
+low_routed evidence taps inputs row tracks routing (inl h) = record { acyclic = h.acyclic; legal = h.legal; tracks = inl h }
+low_routed evidence taps inputs row tracks routing (inr h) = record { acyclic = h.routed.acyclic; legal = h.routed.legal; tracks = inr h }
+
+routed_least : (taps : Taps) (inputs : Inputs) (row : List Column) (tracks : TrackCertificate) (routing : Routing) → IsLowRouted (low_style taps) inputs row tracks routing → IsLeast inputs.fingers row
+routed_least taps inputs row tracks routing (inl h) = h.least
+routed_least taps inputs row tracks routing (inr h) = first_least inputs row h.first
+
+low_least : (taps : Taps) (inputs : Inputs) (row : List Column) (tracks : TrackCertificate) (drawing : DrawAnswer) → DrawsLow (low_style taps) inputs row tracks drawing → IsLeast inputs.fingers row
+low_least taps inputs row tracks (RowDrawn routing xs) (draws, stop) = routed_least taps inputs row tracks routing draws.routed
+low_least taps inputs row tracks (RowCyclic ring) (draws, stop) = first_least inputs row stop.0
+low_least taps inputs row tracks (RowTall routing) (draws, stop) = routed_least taps inputs row tracks routing draws.0
+
+low_stops : (evidence : Evidence) (inputs : Inputs) (row : List Column) (tracks : TrackCertificate) (drawing : DrawAnswer) → IsLowStop inputs row tracks drawing → IsStopBy (Low evidence tracks) inputs row drawing
+low_stops evidence inputs row tracks (RowDrawn routing xs) stop = tt
+low_stops evidence inputs row tracks (RowCyclic ring) stop = stop
+low_stops evidence inputs row tracks (RowTall routing) stop = tt
+
+low_drawn : (evidence : Evidence) (taps : Taps) (inputs : Inputs) (row : List Column) (tracks : TrackCertificate) (drawing : DrawAnswer) → DrawsLow (low_style taps) inputs row tracks drawing → IsDrawnBy (Low evidence tracks) (low_style taps) inputs row (IsLowRouted (low_style taps) inputs row tracks) drawing
+low_drawn evidence taps inputs row tracks drawing (draws, stop) = record {
+  routed = λ routing r. low_routed evidence taps inputs row tracks routing r;
+  stops = low_stops evidence inputs row tracks drawing stop;
+  draws = draws;
+}
+
+-- ---- what it leaves, by its status
+
+abbrev pub LowLeaves : Evidence → Taps → Inputs → List ℕ → View → View → Status → Type 0
+LowLeaves evidence taps inputs out old new status.Done = (tracks : TrackCertificate) × IsMadeCell (Low evidence tracks) (low_style taps) inputs out old new
+LowLeaves evidence taps inputs out old new status.Cycle = (tracks : TrackCertificate) × IsCyclicCell (Low evidence tracks) (low_style taps) inputs out old new
+LowLeaves evidence taps inputs out old new status.TooTall = (tracks : TrackCertificate) × IsTallCell (Low evidence tracks) (low_style taps) inputs out old new
+LowLeaves evidence taps inputs out old new status.Unfinished = IsUnmade evidence inputs out old new ⊎ IsUnwiredCell evidence (low_style taps) inputs out old new
+LowLeaves evidence taps inputs out old new _ = Unit {0}
+
+made_so : (evidence : Evidence) (taps : Taps) (inputs : Inputs) (out : List ℕ) (row : List Column) (certificate : Certificate) (tracks : TrackCertificate) (drawing : DrawAnswer) (end : End) (answer : Status) (old new : View) → ProvesTracks inputs tracks → IsCertifiedBy evidence inputs row certificate → DrawsLow (low_style taps) inputs row tracks drawing → IsRowEnd (low_style taps) inputs out row (low_evidence inputs.cell out certificate tracks) drawing end → TellsWhole end answer old new → LowLeaves evidence taps inputs out old new answer
+made_so Log taps inputs out row (held.Log log) tracks drawing end answer old new proves certified h is whole =
+    row_leaves (Low Log tracks) (low_style taps) inputs out row log (IsLowRouted (low_style taps) inputs row tracks) drawing end answer old new (LowLeaves Log taps inputs out old new) (λ x. (tracks, x)) (λ x. (tracks, x)) (λ x. (tracks, x))
+    (low_least taps inputs row tracks drawing h) (certified, proves) (low_drawn Log taps inputs row tracks drawing h) is whole
+made_so Trails taps inputs out row (held.Trails trails) tracks drawing end answer old new proves certified h is whole =
+    row_leaves (Low Trails tracks) (low_style taps) inputs out row trails (IsLowRouted (low_style taps) inputs row tracks) drawing end answer old new (LowLeaves Trails taps inputs out old new) (λ x. (tracks, x)) (λ x. (tracks, x)) (λ x. (tracks, x))
+    (low_least taps inputs row tracks drawing h) (certified, proves) (low_drawn Trails taps inputs row tracks drawing h) is whole
+made_so Log taps inputs out row (held.Trails trails) tracks drawing end answer old new proves certified h is whole = absurd certified
+made_so Trails taps inputs out row (held.Log log) tracks drawing end answer old new proves certified h is whole = absurd certified
+
+unwired_so : (evidence : Evidence) (taps : Taps) (inputs : Inputs) (out : List ℕ) (row : List Column) (certificate : Certificate) (tracks : TrackCertificate) (ring : Ring) (end : End) (answer : Status) (old new : View) → ProvesTracks inputs tracks → IsTrackSpent inputs tracks → IsFoundBy evidence inputs row certificate → IsToldRing (low_style taps).wiring (placement_of row) inputs.cell.pins ring → IsUnwiredEnd inputs out certificate tracks ring end → TellsWhole end answer old new → IsUnwiredCell evidence (low_style taps) inputs out old new
+unwired_so Log taps inputs out row (held.Log log) tracks ring end answer old new proves spent found told is whole = record {
+  row = row;
+  certificate = log;
+  tracks = tracks;
+  ring = ring;
+  first = found.first;
+  certified = found.certified;
+  proves = proves;
+  spent = spent;
+  is_ring = ring_is (low_style taps).wiring (placement_of row) inputs.cell.pins ring told;
+  is_told = told;
+  files = none_drawn (Low Log tracks) inputs.cell out (evidence_text Log inputs.cell.name log) end.files old.made new.made is.files whole.1;
+  says = said_so _ end.report old.said new.said is.report whole.2;
+}
+unwired_so Trails taps inputs out row (held.Trails trails) tracks ring end answer old new proves spent found told is whole = record {
+  row = row;
+  certificate = trails;
+  tracks = tracks;
+  ring = ring;
+  first = found.first;
+  certified = found.certified;
+  proves = proves;
+  spent = spent;
+  is_ring = ring_is (low_style taps).wiring (placement_of row) inputs.cell.pins ring told;
+  is_told = told;
+  files = none_drawn (Low Trails tracks) inputs.cell out (evidence_text Trails inputs.cell.name trails) end.files old.made new.made is.files whole.1;
+  says = said_so _ end.report old.said new.said is.report whole.2;
+}
+unwired_so Log taps inputs out row (held.Trails trails) tracks ring end answer old new proves spent found told is whole = absurd found
+unwired_so Trails taps inputs out row (held.Log log) tracks ring end answer old new proves spent found told is whole = absurd found
+
+low_leaves_so : (evidence : Evidence) (taps : Taps) (inputs : Inputs) (out : List ℕ) (end : End) (answer : Status) (old new : View) → MakesLowTo evidence taps inputs out end → TellsWhole end answer old new → LowLeaves evidence taps inputs out old new answer
+low_leaves_so evidence taps inputs out end answer old new (low.Made row certificate tracks drawing, (proves, certified, there, h), is) whole =
+    made_so evidence taps inputs out row certificate tracks drawing end answer old new proves certified h is whole
+low_leaves_so evidence taps inputs out end answer old new (low.Unwired row certificate tracks ring, (proves, spent, found, told), is) whole =
+    by_end (LowLeaves evidence taps inputs out old new) status.Unfinished answer end old new is.status whole (inr (unwired_so evidence taps inputs out row certificate tracks ring end answer old new proves spent found told is whole))
+low_leaves_so evidence taps inputs out end answer old new (low.Open proved certificate, h, is) whole =
+    by_end (LowLeaves evidence taps inputs out old new) status.Unfinished answer end old new is.status whole (inl (inl (open_so evidence inputs out proved certificate end answer old new h is whole)))
+low_leaves_so evidence taps inputs out end answer old new (low.Crowded gate, h, is) whole =
+    by_end (LowLeaves evidence taps inputs out old new) status.Unfinished answer end old new is.status whole (inl (inr (crowded_so evidence inputs gate end answer old new h is whole)))
+
+pub low_leaves : (settled : Status) (a c : View) (form : Option Form) (answer : Status) (given : Option Files) → is_among work_statuses settled ≡ true → IfSome given (IsAnswered form a c answer) → IfSome given (λ files. WhereEnds MakingLow files form answer settled (λ m. IsAskedLow form m × LowLeaves m.evidence m.taps m.inputs m.stem a c settled))
+low_leaves settled a c form answer given own told =
+    asked_told form answer settled (λ m. LowLeaves m.evidence m.taps m.inputs m.stem a c settled) given
+    (ends_told MakingLow (λ m. LowLeaves m.evidence m.taps m.inputs m.stem a c settled) form settled answer a c given own (λ m end works is whole. subst (LowLeaves m.evidence m.taps m.inputs m.stem a c) is (low_leaves_so m.evidence m.taps m.inputs m.stem end answer a c works whole)) told)
