@@ -1,2 +1,3 @@
 -- What contracts of public calls cite.
+pub mod Asked
 pub mod Measured

@@ -1,5 +1,6 @@
-ghost use Rattle.std.specs.Prelude.{IfSome};
+ghost use Rattle.std.specs.Prelude.{◌≡◌, IfSome, option_map};
 ghost use Rattle.cell_num.specs.Fingers.{AreFingers};
+ghost use Rattle.row_bench.specs.Asked.{asked, bound_of, shown};
 
 use cell_io::{Desk, read_all};
 use cell_num::{Fingers, copy};
@@ -16,20 +17,33 @@ const MOST_FILE_BYTES: u64 = 4_194_304;
 #[derive(Clone, Copy)]
 pub struct Asked<'a> {
     pub bound: LogBound,
-    tech: &'a str,
-    spice: &'a str,
-    cell: &'a str,
+    pub tech: &'a str,
+    pub spice: &'a str,
+    pub cell: &'a str,
+}
+
+// The bound of the logs of a version.
+fn bound_of(version: &str) -> Option<LogBound>
+    ensures { result ≡ bound_of version.now }
+{
+    match version {
+        "1" => Some(LogBound::One),
+        "2" => Some(LogBound::Two),
+        _ => None,
+    }
 }
 
 impl<'a> Asked<'a> {
     /// From a version, a technology file, a SPICE file and a cell, if there are just these words.
-    pub fn from_words(words: &'a [String]) -> Option<Asked<'a>> {
+    pub fn from_words(words: &'a [String]) -> Option<Asked<'a>>
+        ensures { option_map shown result ≡ asked words.now }
+    {
         match words {
             [version, tech, spice, cell] => Some(Asked {
-                bound: LogBound::of(version.parse().ok()?)?,
-                tech,
-                spice,
-                cell,
+                bound: bound_of(version.as_str())?,
+                tech: tech.as_str(),
+                spice: spice.as_str(),
+                cell: cell.as_str(),
             }),
             _ => None,
         }

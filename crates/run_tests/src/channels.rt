@@ -3,7 +3,7 @@ use cell_run::Status;
 use std::alloc::Global;
 use std::test::Fail;
 
-// Cells are 298 high. The N edge of each stands 24 and its N finger above the lower end, its P edge 24 and its P finger
+// Cells are 298 high. The N edge of each is 24 and its N finger above the lower end, its P edge 24 and its P finger
 // below the upper end.
 const TECH: &str = "wmax_p = 200\nwmax_n = 200\nheight = 298";
 
@@ -54,7 +54,7 @@ fn are_ended(alloc: Global) -> Result<bool, Fail> {
     Ok(true)
 }
 
-// The N edge of one of two neighbours has to stand 24 below the P edge of the other, whichever is the left one.
+// The N edge of one of two neighbours has to be 24 below the P edge of the other, whichever is the left one.
 #[test]
 fn keeps_a_channel_between_cells(rt: HostRuntime) -> Result<(), Fail> {
     assert!(rt; are_ended(rt.alloc())?);

@@ -171,7 +171,7 @@ fn ends_so(
 }
 
 // Words, how many calls of the desk read, and how many there are. A file is read by two calls, its bytes and its end.
-const COMMANDS: [(&str, [u64; 2]); 9] = [
+const COMMANDS: [(&str, [u64; 2]); 10] = [
     ("plan t.toml c.sp x3", [4, 5]),
     ("make t.toml c.sp x3 out", [4, 11]),
     ("make t.toml c.sp x3 out --from l.clog", [6, 11]),
@@ -180,6 +180,7 @@ const COMMANDS: [(&str, [u64; 2]); 9] = [
     ("check t.toml c.sp x3 l.ctrack --low", [6, 7]),
     ("extract t.toml c.gds x3", [4, 5]),
     ("row t.toml c.sp out pair x3 x3", [4, 7]),
+    ("row t.toml c.sp out pair x3 x3 --low", [4, 7]),
     ("bench 1", [0, 1]),
 ];
 

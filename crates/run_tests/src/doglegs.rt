@@ -106,7 +106,7 @@ const RINGS: [(&str, &str, Status, &str, [usize; 2]); 4] = [
     ),
 ];
 
-// A ring of whole nets is none of their pieces; the height that the cell needs is reported as without the word.
+// A cycle of whole nets is none of their pieces; the height that the cell needs is reported as without the word.
 #[test]
 fn makes_a_ring_of_nets_with_doglegs(rt: HostRuntime) -> Result<(), Fail> {
     for (tech, words, status, said, lengths) in &RINGS {
@@ -142,7 +142,7 @@ const CELLS: [(&str, &str, Status, &str, [usize; 2]); 3] = [
     ),
 ];
 
-// A ring of pieces stays one, and cells whose nets need no dogleg are made too.
+// A cycle of pieces stays one, and cells whose nets need no dogleg are made too.
 #[test]
 fn ends_with_doglegs(rt: HostRuntime) -> Result<(), Fail> {
     for (spice, words, status, said, lengths) in &CELLS {

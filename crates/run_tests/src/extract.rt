@@ -96,7 +96,7 @@ pub fn put_box(out: &mut Vec<u8>, head: &[u8], low: [i32; 2], high: [i32; 2]) ->
     put_element(out, head, &corners)
 }
 
-// Two rectangles on metal1 that are so far apart.
+// Two rectangles on metal1 at this distance.
 fn put_bars(out: &mut Vec<u8>, second: i32, end: i32) -> Result<(), Fail> {
     put_box(out, &METAL1, [0, 0], [1500, 1500])?;
     put_box(out, &METAL1, [second, 0], [end, 1500])
@@ -196,7 +196,7 @@ fn is_device(alloc: Global, made: &[u8]) -> Result<bool, Fail> {
     is
 }
 
-// Whether this is said of two bars that are so far apart.
+// Whether this is said of two bars at this distance.
 fn are_bars(
     alloc: Global,
     made: &[u8],

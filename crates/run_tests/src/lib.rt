@@ -1,8 +1,10 @@
-// Worked examples of whole calls. They stand here, since a crate with tests is proved twice.
+// Worked examples of whole calls. They are here, since a crate with tests is proved twice.
 #![tactic(auto)]
 
 #[cfg(test)]
 mod agrees;
+#[cfg(test)]
+mod bench_texts;
 #[cfg(test)]
 mod benches;
 #[cfg(test)]
@@ -25,6 +27,8 @@ mod extract;
 mod given_rows;
 #[cfg(test)]
 mod logs;
+#[cfg(test)]
+mod low_cells;
 #[cfg(test)]
 mod low_rows;
 #[cfg(test)]

@@ -67,7 +67,7 @@ fn is_done(alloc: Global, copies: &str) -> Result<bool, Fail> {
 }
 
 // A log that is read in more than one piece: a lemma, 2,600 copies of one, a lemma and the row. A lemma that is not
-// justified stands in the first piece, a fault of the text in the second.
+// justified is in the first piece, a fault of the text in the second.
 #[test]
 fn checks_a_log_in_pieces(rt: HostRuntime) -> Result<(), Fail> {
     let mut copies = String::new(rt.alloc());

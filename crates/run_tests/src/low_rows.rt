@@ -37,7 +37,7 @@ fewest 4
 size 167 196
 lemmas ";
 
-// The first least row has a ring, the second is wired.
+// The first least row has a cycle, the second is wired.
 const CROSS_MADE: &str = "status 0 ok
 cell cross
 columns 2
@@ -50,7 +50,7 @@ fewest 4
 size 82 166
 lemmas ";
 
-// Both ends of each finger have one net, so that each row has a ring.
+// Both ends of each finger have one net, so that each row has a cycle.
 pub const RING: &str = ".SUBCKT ring x y a b vdd gnd
 M1 x a x vdd p W=3u L=0.6u
 M2 y a y gnd n W=1.5u L=0.6u

@@ -7,7 +7,7 @@ use cell_run::Status;
 use std::alloc::Global;
 use std::test::Fail;
 
-// Two nets that stand above each other.
+// Two nets that are above each other.
 const RING: &str = ".SUBCKT r8 x y u v s t a b vdd gnd
 M1 x a u vdd p W=3u L=0.6u
 M2 y a v gnd n W=1.5u L=0.6u

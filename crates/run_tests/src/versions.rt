@@ -34,7 +34,7 @@ fn log_of(alloc: Global, version: &str) -> Result<String, AllocError> {
     joined(alloc, &["cellgen-log ", version, "\n", RING_LOG])
 }
 
-// Whether the ring is made with this log.
+// Whether the cell `ring` is made with this log.
 fn leaves_log(alloc: Global, log: &str) -> Result<bool, Fail> {
     let files = [("out.clog", Left::Bytes(log.as_bytes()))];
     let end = End {

@@ -25,6 +25,7 @@ make TECH SPICE CELL OUT [--dogleg] [--taps] --trails
 make TECH SPICE CELL OUT [--dogleg] [--taps] [--trails] --from FILE
 make TECH SPICE CELL OUT [--taps] --low [--trails]
 check TECH SPICE CELL FILE --low
+row TECH SPICE OUT TOP CELL CELL .. --low
 ";
 
 const BENCH: &str = "status 0 ok

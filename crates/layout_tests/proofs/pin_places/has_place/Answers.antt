@@ -1,6 +1,0 @@
-use Rattle.std.proofs.Common.{◌≡◌, true, subst}
-use Rattle.layout_tests.proofs.HasPlaces.{has_line}
-use Rattle.layout_tests.proofs.pin_places.has_place.Goals as goal
-
-pub returns : goal.returns
-returns c e = has_line c.args.placement.now c.args.net (subst (λ b. b ≡ true) c.is_named.ensures e)

@@ -1,2 +1,0 @@
--- What contracts of public calls cite.
-pub mod Answer
