@@ -1,4 +1,4 @@
--- How an end is told: its files are made in order, then its report is said.
+-- How an end is delivered: its files are made in order, then its report is said.
 use Rattle.std.specs.Prelude.{ℕ, ◌≡◌, ◌≤◌, ◌⊎◌, List, [], ◌∷◌, ◌++◌, Some, string_bytes, map, take}
 use Rattle.cell_io.specs.Desk.{Files, View, Both, Sets, AddsPart, ForSome, WrittenIn, Rose}
 use Rattle.call_end.specs.declared.end.End.{End}
@@ -19,7 +19,7 @@ abbrev pub MakesAll : List Output → Files → Files → Type 0
 MakesAll [] old new = new ≡ old
 MakesAll (file ∷ later) old new = (mid : Files) × Makes file old mid × MakesAll later mid new
 
--- some of them whole and in order, a front of the next one, and none of those behind it
+-- some of them whole and in order, a front of the next one, and none of those after it
 abbrev pub MakesSome : List Output → Files → Files → Type 0
 MakesSome [] old new = ⊥
 MakesSome (file ∷ later) old new =
@@ -33,7 +33,7 @@ names_of files = map (λ file. string_bytes file.name) files
 abbrev pub CreatesAll : List Output → List (List ℕ) → List (List ℕ) → Type 0
 CreatesAll files old new = new ≡ old ++ names_of files
 
--- so it is of the first ones, and none behind them was created
+-- so it is of the first ones, and none after them was created
 abbrev pub CreatesFront : List Output → List (List ℕ) → List (List ℕ) → Type 0
 CreatesFront files old new = (count : ℕ) × (new ≡ old ++ take count (names_of files))
 
@@ -64,7 +64,7 @@ GivesUp answer old new =
 abbrev pub Tells : End → Status → View → View → Type 0
 Tells end answer old new = TellsWhole end answer old new ⊎ (GivesUp answer old new × TellsSome end old new)
 
--- what telling leaves as it was
+-- what delivery leaves as it was
 pub record OnlyTells (old new : View) : Type 0 where
   pub given : new.given ≡ old.given
   pub reads : new.read_faults ≡ old.read_faults

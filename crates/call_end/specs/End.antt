@@ -8,14 +8,14 @@ use Rattle.call_end.specs.Status.{first_line}
 abbrev pub says : Status → List ℕ → End
 says status report = record { status = status; files = []; report = report }
 
--- without files, and with this text behind the first line of its report
+-- without files, and with this text after the first line of its report
 abbrev pub reports : Status → List ℕ → End
 reports status text = says status (first_line status ++ text)
 
 abbrev pub leaves : Status → List Output → List ℕ → End
 leaves status files report = record { status = status; files = files; report = report }
 
--- ---- an end by what it tells
+-- ---- an end by what it reports
 
 -- a file by its name and bytes
 abbrev pub named : Output → List ℕ × List ℕ

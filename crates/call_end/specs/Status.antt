@@ -1,4 +1,4 @@
--- The numbers of the statuses, and how a report tells them.
+-- The numbers of the statuses, and how a report names them.
 use Rattle.std.specs.Prelude.{ℕ, List, ◌++◌, codes}
 use Rattle.call_end.specs.declared.status.Status.{Status}
 use Rattle.call_end.specs.declared.status.Status.TheVariants.{Done, Usage, ReadFault, WriteFault, Input, Cycle}

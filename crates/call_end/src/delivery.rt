@@ -54,7 +54,7 @@ fn make_files<D: Desk>(desk: &mut D, files: OutputList) -> Result<(), WriteFault
 /// Makes the files of an end in order, each once, then says its report. It takes no memory but what the desk takes.
 pub fn deliver<D: Desk>(desk: &mut D, end: End) -> Status
     ensures tells { Tells end result (D.view desk.old) (D.view desk.new) }
-    // A failing call of the desk ends it: a count is as before wherever the status tells of no such failure.
+    // A failing call of the desk ends it: a count is as before wherever the status reports no such failure.
     ensures same_writes { result ≢ status.WriteFault
         → (D.view desk.new).write_faults ≡ (D.view desk.old).write_faults }
     ensures same_shorts { result ≢ status.NoMemory → (D.view desk.new).shorts ≡ (D.view desk.old).shorts }

@@ -30,7 +30,7 @@ pub enum Status {
     TooLong,
     /// The technology's height is below the one that the cell needs.
     TooTall,
-    /// Cells that are to stand in one row do not fit beside each other.
+    /// The cells of a row do not fit beside each other.
     Row,
     /// An abstract does not agree with a layout.
     Disagree,
@@ -91,7 +91,7 @@ impl Status {
         Ok(report)
     }
 
-    /// The report that tells the status and the name of a file.
+    /// The report of the status with the name of a file.
     pub fn report_of(&self, alloc: Global, name: &[u8]) -> Result<Bytes, NoMemory>
         ensures { IfOk result (λ report. report ≡ named_line self.now name.now) }
     {

@@ -27,7 +27,7 @@ abbrev pub behind : {A : Type 0} → Result (List ℕ) Refusal → (List ℕ →
 behind (Ok bytes) rest = rest bytes
 behind (Err e) rest = Err e
 
--- what it results in over files that are told
+-- what it results in over files that are shown
 abbrev pub called : {A : Type 0} → Files → Reading A → Result A Refusal
 called files (Ends ended) = ended
 called files (Reads source rest) = behind (held files source) (λ bytes. called files (rest bytes))

@@ -44,7 +44,7 @@ within name most (Some bytes) = if nat_le (length bytes) most then Ok bytes else
 abbrev pub held : Files → Source → Result (List ℕ) Refusal
 held files source = within (file_name source) (most_bytes source) (files (file_name source))
 
--- What reading a file over a desk may result in: what its files call for, where they are told; some bytes within
+-- What reading a file over a desk may result in: what its files call for, where they are shown; some bytes within
 -- the limit, or too many, where they are not; or, where a reading failed in the call, that the file is unread.
 abbrev pub MayRead : Option Files → Type 0 → Source → Result (List ℕ) Refusal → Type 0
 MayRead (Some files) failed source read =
@@ -52,7 +52,7 @@ MayRead (Some files) failed source read =
 MayRead None failed source (Ok bytes) = length bytes ≤ most_bytes source
 MayRead None failed source (Err e) = (e ≡ Long (file_name source)) ⊎ (failed × (e ≡ Unread (file_name source)))
 
--- one of the files is not among those that are told
+-- one of the files is not among those that are shown
 abbrev pub Lacks : Option Files → List Source → Type 0
 Lacks None sources = ⊥
 Lacks (Some files) sources = (source : Source) × Contains sources source × IsNone (files (file_name source))

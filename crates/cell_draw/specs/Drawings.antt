@@ -1,4 +1,4 @@
--- The drawing of a layout: its shapes, and the names of its nets where its tags stand.
+-- The drawing of a layout: its shapes, and the names of its nets at its tags.
 use Rattle.std.specs.Prelude.{ℕ, pos, ◌==◌, if◌then◌else◌, List, [], length, map, get_or}
 use Rattle.std.specs.List.{flat_map}
 use Rattle.cell_num.specs.declared.net.Pins.{Pins}

@@ -31,7 +31,7 @@ abbrev pub end_of : Layer → ℕ
 end_of Metal1 = RAIL
 end_of _ = ROW_EDGE - END_CAP
 
--- so far or further from both sides and from both ends of the cell
+-- at least `side` from both sides and at least `end` from both ends of the cell
 pub record KeepsFrom (f : Frame) (side end : ℕ) (r : Rect) : Type 0 where
   pub left : pos side ≤ℤ r.x1
   pub right : (r.x2 +ℤ pos side) ≤ℤ pos f.width
@@ -57,7 +57,7 @@ pub record IsLabelInFrame (f : Frame) (l : Label) : Type 0 where
 
 -- A drawing on these lines, in this frame.
 pub record IsFramed (f : Frame) (xs : List ℕ) (d : Drawing) : Type 0 where
-  -- the first line stands so far from the left side or further, the last so far from the right side
+  -- the first line keeps this distance from the left side, the last from the right side
   pub first : SIDE_SPACE ≤ x_of xs 0
   pub last : f.width ≡ x_of xs (length xs - 1) + SIDE_SPACE
   -- upward: a rail, its gap, the N row, the channel, the P row, a gap, a rail

@@ -33,7 +33,7 @@ pub record IsTrack (f : Frame) (tracks y : ℕ) : Type 0 where
   pub below : number < tracks
   pub is : y ≡ f.n_edge + EDGE_SPACE + TRACK_PITCH * number
 
--- a line at which something stands is well inside the cell
+-- a line at which something is drawn is well inside the cell
 pub record IsInside (f : Frame) (x : ℕ) : Type 0 where
   pub left : SIDE_SPACE ≤ x
   pub right : x + SIDE_SPACE ≤ f.width
@@ -61,11 +61,11 @@ pub record IsStrip (f : Frame) (s : Strip) : Type 0 where
   pub least : 6 ≤ s.width
   pub most : s.width ≤ row_height f s.row
 
--- the next strip shares an end, or a gap stands between
+-- the next strip shares an end, or a gap is between
 abbrev pub Follows : Strip → Strip → Type 0
 Follows a b = (a.right ≡ b.left) ⊎ (a.right + 2 * LINE_SPACE ≤ b.left)
 
--- a contact stands at an end of a strip of its row, or far from it
+-- a contact is at an end of a strip of its row, or far from it
 abbrev pub MeetsEnd : Contact → Strip → Type 0
 MeetsEnd c s = (c.x ≡ s.left) ⊎ ((c.x ≡ s.right) ⊎ ((c.x + 2 * LINE_SPACE ≤ s.left) ⊎ (s.right + 2 * LINE_SPACE ≤ c.x)))
 
@@ -78,7 +78,7 @@ abbrev pub IsWidth : ℕ → Option ℕ → Type 0
 IsWidth height None = Unit {0}
 IsWidth height (Some width) = (6 ≤ width) × (width ≤ height)
 
--- a gate stands over a finger of the N or of the P row
+-- a gate is over a finger of the N or of the P row
 abbrev pub HasFinger : Option ℕ → Option ℕ → Type 0
 HasFinger None None = ⊥
 HasFinger _ _ = Unit {0}
@@ -89,7 +89,7 @@ pub record IsGate (f : Frame) (g : Gate) : Type 0 where
   pub p : IsWidth f.p_height g.p
   pub finger : HasFinger g.n g.p
 
--- a gate stands over the strip, as wide as it knows, or clear of it
+-- a gate is over the strip, as wide as it knows, or clear of it
 abbrev pub Crosses : Gate → Strip → Type 0
 Crosses g s =
     ((s.left + LINE_SPACE ≤ g.x) × (g.x + LINE_SPACE ≤ s.right) × (width_in s.row g ≡ Some s.width))
@@ -131,7 +131,7 @@ pub record IsMet (l : Layout) (b : Bar) (x : ℕ) : Type 0 where
 pub record IsLaid (l : Layout) : Type 0 where
   pub tracks : ℕ
   pub frame : IsFrame l.frame tracks
-  -- fingers: of one row, each behind the next
+  -- fingers: of one row, each to the left of the next
   pub strips : All (IsStrip l.frame) l.strips
   pub ordered : (a b : Strip) → Contains l.strips a → Contains l.strips b → a.row ≡ b.row →
       (a ≡ b) ⊎ (Follows a b ⊎ Follows b a)

@@ -117,7 +117,7 @@ abbrev pub has_via : List NodePlace → List Trunk → Trunk → NodePlace → B
 has_via nodes trunks t node =
     holds node.net node.line t && has_own_via nodes node && not (list_any (begins_before t node.line) trunks)
 
--- Where the vias of a trunk stand, from left to right: at each node line of its net that it holds, but for those at
+-- The places of the vias of a trunk, from left to right: at each node line of its net that it holds, except those at
 -- which a trunk of the net on the same track begins before it and has the via.
 abbrev pub vias_of : List NodePlace → List Trunk → List ℕ → Trunk → List ℕ
 vias_of nodes trunks xs t = map (λ node. x_of xs node.line) (filter (has_via nodes trunks t) nodes)
@@ -131,7 +131,7 @@ bar_of f nodes trunks xs t = record {
   vias = vias_of nodes trunks xs t;
 }
 
--- A net's name stands on its rail, on its first trunk, or else at its only place.
+-- A net's name is on its rail, on its first trunk, or else at its only place.
 abbrev pub node_tag : Frame → List ℕ → NodePlace → Tag
 node_tag f xs node = record {
   layer = Active;

@@ -32,7 +32,7 @@ END_CAP = 4
 abbrev pub WELL_PAST_ROW : ℕ
 WELL_PAST_ROW = 12
 
--- The well past the sides of the cell. Rule 2.3 asks 9, since pads stand 3 inside; a whole lambda is the choice.
+-- The well past the sides of the cell. Rule 2.3 asks 9, since pads are 3 inside; a whole lambda is the choice.
 abbrev pub WELL_PAST_SIDE : ℕ
 WELL_PAST_SIDE = 10
 
@@ -40,7 +40,7 @@ WELL_PAST_SIDE = 10
 abbrev pub SELECT_PAST_ROW : ℕ
 SELECT_PAST_ROW = 4
 
--- A select past the sides of the cell. Rule 4.2 asks 1, since pads stand 3 inside; a whole lambda is the choice.
+-- A select past the sides of the cell. Rule 4.2 asks 1, since pads are 3 inside; a whole lambda is the choice.
 abbrev pub SELECT_PAST_SIDE : ℕ
 SELECT_PAST_SIDE = 2
 

@@ -20,11 +20,11 @@ use Rattle.cell_draw.specs.declared.layout.Layout.{Layout}
 abbrev pub box : Layer → ℤ → ℤ → ℤ → ℤ → Shape
 box layer x1 y1 x2 y2 = record { layer = layer; rect = record { x1 = x1; y1 = y1; x2 = x2; y2 = y2 } }
 
--- the square around a point that reaches so far to each side
+-- the square around a point that reaches this far to each side
 abbrev pub around : Layer → ℕ → ℤ → ℕ → Shape
 around layer x y by = box layer (pos x -ℤ pos by) (y -ℤ pos by) (pos x +ℤ pos by) (y +ℤ pos by)
 
--- from low to high, so far to both sides of a line
+-- from low to high, this far to both sides of a line
 abbrev pub upright : Layer → ℕ → ℕ → ℤ → ℤ → Shape
 upright layer x by low high = box layer (pos x -ℤ pos by) low (pos x +ℤ pos by) high
 

@@ -29,17 +29,17 @@ use Rattle.cell_draw.specs.Frame.{channel_edge}
 use Rattle.cell_draw.specs.Named.{name_of}
 use Rattle.net_extract.specs.declared.side.Current.TheVariants.{Rightward}
 
--- where the gates of a column stand
+-- the places of the gates of a column
 pub record Span : Type 0 where
   pub left : ℤ
   pub right : ℤ
 
--- the box stands in the column
+-- the box is in the column
 pub record IsIn (span : Span) (box : Rectangle) : Type 0 where
   pub left : box.x1 ≡ span.left
   pub right : box.x2 ≡ span.right
 
--- a device of the row stands in the column
+-- a device of the row is in the column
 pub record IsInRow (deck : Deck) (s : List Shape) (side : Row) (span : Span) (box : Rectangle) : Type 0 where
   pub inside : IsIn span box
   pub device : IsSomeDevice deck s box
@@ -57,7 +57,7 @@ pub record IsPlacedAt (deck : Deck) (names : List (List ℕ)) (shapes : Shapes) 
   pub left_end : IsNamed deck shapes (name_of names (left_net x)) left
   pub right_end : IsNamed deck shapes (name_of names (right_net x)) right
 
--- exactly one device of the row stands in the column, and is the finger
+-- exactly one device of the row is in the column: the finger
 pub record IsOneIn (deck : Deck) (names : List (List ℕ)) (shapes : Shapes) (side : Row) (span : Span) (x : Placed)
     : Type 0 where
   pub box : Rectangle
@@ -65,7 +65,7 @@ pub record IsOneIn (deck : Deck) (names : List (List ℕ)) (shapes : Shapes) (si
   pub placed : IsPlacedAt deck names shapes side box x
   pub only : (other : Rectangle) → IsInRow deck shapes.rects side span other → other ≡ box
 
--- what stands in a row of a column is the finger of a filled place, and nothing in an empty one
+-- in a row of a column, a filled place has its finger, and an empty one nothing
 abbrev pub IsPlace : Deck → List (List ℕ) → Shapes → Row → Span → Option Placed → Type 0
 IsPlace deck names shapes side span None = (box : Rectangle) → IsInRow deck shapes.rects side span box → ⊥
 IsPlace deck names shapes side span (Some x) = IsOneIn deck names shapes side span x
@@ -80,7 +80,7 @@ abbrev pub IsJoined : List Shape → Row → Rectangle → Rectangle → Type 0
 IsJoined s N a b = (a.y2 ≡ b.y2) × ((x : ℤ) → a.x2 ≤ℤ x → x <ℤ b.x1 → On Active s x (a.y2 -ℤ pos 1))
 IsJoined s P a b = (a.y1 ≡ b.y1) × ((x : ℤ) → a.x2 ≤ℤ x → x <ℤ b.x1 → On Active s x a.y1)
 
--- two neighbouring columns of the row, and where they stand
+-- two neighbouring columns of the row, and their places
 pub record AreNeighbours (row : List Column) (spans : List Span) (a b : Column) (one other : Span) : Type 0 where
   pub at : ℕ
   pub before : slice_get row at ≡ Some a
@@ -88,7 +88,7 @@ pub record AreNeighbours (row : List Column) (spans : List Span) (a b : Column) 
   pub left : slice_get spans at ≡ Some one
   pub right : slice_get spans (at + 1) ≡ Some other
 
--- The columns stand in order, each device in one of them. Neighbours without a gap abut in each row that
+-- The columns are in order, and each device is in one of them. Neighbours without a gap abut in each row that
 -- both fill.
 pub record ShowsRow (deck : Deck) (names : List (List ℕ)) (row : List Column) (shapes : Shapes) : Type 0 where
   pub spans : List Span
@@ -104,7 +104,7 @@ pub record ShowsColumns (deck : Deck) (names : List (List ℕ)) (pins : Pins) (r
     : Type 0 where
   pub shown : ArePins (length names) pins → ShowsRow deck names row shapes
 
--- the net's label stands on the track, where the channel begins at this height
+-- the net's label is on the track, where the channel begins at this height
 pub record ShowsTrack (names : List (List ℕ)) (n_edge : ℕ) (shapes : Shapes) (t : Trunk) : Type 0 where
   pub label : Label
   pub listed : Contains shapes.labels label

@@ -17,10 +17,10 @@ pub const MOST_HEIGHT: u32 = 4_000;
 /// The most tracks of a cell.
 pub const MOST_TRACKS: u32 = 1_000;
 
-/// Where the last line of a cell may stand, in grid units.
+/// The greatest position of the last line of a cell, in grid units.
 pub const MOST_X: u32 = 1_000_000;
 
-/// No shape and no label stands higher than this, in grid units.
+/// No shape and no label is higher than this, in grid units.
 pub const MOST_Y: u32 = 200_000;
 
 /// The channel edges of the N and of the P row, in grid units.

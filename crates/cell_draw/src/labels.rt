@@ -1,4 +1,4 @@
-// Where the names of the nets stand, and the labels there.
+// The places of the names of nets, and the labels there.
 
 ghost use Rattle.std.specs.Prelude.{◌≡◌, ◌≤◌, ◌+◌, ◌==◌, ◌++◌, [], get_or, option_to_list, All, IfOk, OnOk, map, find};
 ghost use Rattle.std.specs.Option.{option_copied};
@@ -151,7 +151,7 @@ fn add_tag(tags: &mut List<Tag>, tag: Option<Tag>) -> Result<(), NoMemory>
     }
 }
 
-/// A tag for each net that stands in the cell, in order of net.
+/// A tag for each net of the cell, in order of net.
 pub fn tags(
     alloc: Global,
     frame: &Frame,
@@ -196,7 +196,7 @@ fn label_of(alloc: Global, names: &[Name], tag: &Tag) -> Result<Label, NoMemory>
     })
 }
 
-/// The names of the nets where their tags stand.
+/// The names of the nets at their tags.
 pub fn labels(alloc: Global, names: &[Name], tags: &[Tag]) -> Result<LabelList, NoMemory>
     requires { All IsSmallTag tags.now }
     ensures { IfOk result (λ labels. labels ≡ map (label_of names.now) tags.now) }

@@ -6,7 +6,7 @@ use cell_num::{List, NetNo, Row};
 pub struct Frame {
     /// The height of the N row: at least that of a pad and at least each finger's width.
     pub n_height: u32,
-    /// The height of the P row, likewise.
+    /// The height of the P row, in the same way.
     pub p_height: u32,
     /// The y of the N row's channel edge, its upper one.
     pub n_edge: u32,
@@ -66,7 +66,7 @@ pub struct Bar {
     pub vias: List<u32>,
 }
 
-/// Where a net's name stands, in grid units.
+/// The place of a net's name, in grid units.
 #[derive(Clone, Copy, Debug, PartialEq, Eq)]
 pub struct Tag {
     pub layer: Layer,

@@ -7,7 +7,7 @@ abbrev pub Files : Type 0
 Files = List ℕ → Option (List ℕ)
 
 -- the files that reads answer from, the files made, the names of those created, in order and each as often as it was,
--- and the bytes said, each where the desk tells them; and how often reading, writing and the desk's own growth have
+-- and the bytes said, each where the desk shows them; and how often reading, writing and the desk's own growth have
 -- failed
 pub record View : Type 0 where
   pub given : Option Files
@@ -18,7 +18,7 @@ pub record View : Type 0 where
   pub write_faults : ℕ
   pub shorts : ℕ
 
--- a count rose, or stands at its greatest
+-- a count rose, or is the greatest u64
 abbrev pub Rose : ℕ → ℕ → Type 0
 Rose before now = min (before + 1) (2 ^ 64 - 1) ≤ now
 
@@ -75,12 +75,12 @@ pub record IsQuiet (old new : View) : Type 0 where
   pub writes : new.write_faults ≡ old.write_faults
   pub shorts : new.shorts ≡ old.shorts
 
--- the bytes of a file, where the files are told and it is there
+-- the bytes of a file, where the files are shown and it is there
 abbrev pub told : Option Files → List ℕ → Option (List ℕ)
 told None name = None
 told (Some files) name = files name
 
--- a file is called missing: of told files exactly one that is not there, and else only where reading failed
+-- a file is called missing: where files are shown, exactly one that is not there; else only where reading failed
 abbrev pub IsMissing : Type 0 → List ℕ → View → View → Type 0
 IsMissing called name old new =
     MatchOption old.given (called → ReadingFailed old new) (λ files. called ↔ IsNone (files name))
@@ -98,7 +98,7 @@ AddsPart part count old new = new ≡ old ++ take count part
 abbrev pub IsHeld : Files → List ℕ → Type 0
 IsHeld files name = (bytes : List ℕ) × (files name ≡ Some bytes)
 
--- the name has this content, every other one what it had
+-- the name has this content, each other name the content that it had
 abbrev pub Sets : List ℕ → Option (List ℕ) → Files → Files → Type 0
 Sets name content old new = (q : List ℕ) → new q ≡ (if bytes_eq q name then content else old q)
 
@@ -106,7 +106,7 @@ Sets name content old new = (q : List ℕ) → new q ≡ (if bytes_eq q name the
 abbrev pub CreatedIn : List ℕ → Files → Files → Type 0
 CreatedIn name old new = Sets name (Some []) old new
 
--- the name was created once more
+-- the name was created again
 abbrev pub CreatesOne : List ℕ → List (List ℕ) → List (List ℕ) → Type 0
 CreatesOne name old new = new ≡ old ++ name ∷ []
 
@@ -119,7 +119,7 @@ AppendedIn name part count old new =
 abbrev pub WrittenIn : List ℕ → List ℕ → ℕ → Files → Files → Type 0
 WrittenIn name bytes count old new = Sets name (Some (take count bytes)) old new
 
--- both are told and related, or neither is told
+-- both are shown and related, or neither is shown
 abbrev pub Both : {X : Type 0} → (X → X → Type 0) → Option X → Option X → Type 0
 Both R None None = Unit {0}
 Both R (Some x) (Some y) = R x y

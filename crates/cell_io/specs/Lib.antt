@@ -1,4 +1,4 @@
--- What contracts of public calls cite, and what these definitions stand on.
+-- What contracts of public calls cite, and what these definitions use.
 pub mod Desk
 pub mod Host
 pub mod Mem

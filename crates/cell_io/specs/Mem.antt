@@ -67,7 +67,7 @@ mem_view desk = record {
 abbrev pub IsToFail : MemDesk → Type 0
 IsToFail desk = Contains (failing_calls desk) (next_call desk)
 
--- one more, but for the greatest u64, which stays
+-- one more, except that the greatest u64 stays
 abbrev pub one_more : ℕ → ℕ
 one_more count = min (count + 1) (2 ^ 64 - 1)
 

@@ -14,7 +14,7 @@ place_of reading = reading.place
 abbrev pub file_of : {F : Type 0} → Reading F → F
 file_of reading = reading.file
 
--- where a file of this kind tells its bytes and where it stands, a read gives the bytes from there on
+-- where a file of this kind shows its bytes and its position, a read gives the bytes from that position on
 abbrev pub LeavesTheRest : {F : Type 0} → (F → Option (List ℕ)) → (F → Option ℕ) → (F → Option (List ℕ)) → Type 0
 LeavesTheRest {F} remaining position bytes =
     (f : F) → (at : ℕ) → (all : List ℕ) → position f ≡ Some at → bytes f ≡ Some all

@@ -13,9 +13,9 @@ pub enum DeskAnswer {
     NoMemory,
 }
 
-/// Files to read, files that are made, and text that is said. A desk tells its contracts the files, the
-/// names of those created and the text, or leaves them open; its three counts it always tells. A count
-/// never falls, and one that stands at the greatest u64 is read as risen. A call that succeeds raises no
+/// Files to read, files that are made, and text that is said. A desk shows its contracts the files, the
+/// names of those created and the text, or leaves them open; it always shows its three counts. A count
+/// never falls, and one that is the greatest u64 is read as risen. A call that succeeds raises no
 /// count, and a call that fails raises that of its answer alone.
 pub trait Desk {
     ghost view: { Self → View };

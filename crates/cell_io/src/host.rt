@@ -16,7 +16,7 @@ use std::rt::Files;
 use std::{fs, io};
 
 /// The files of the system and standard output. No contract can say what they hold, so this desk
-/// tells nothing but its counts. It keeps the file that it read last open and reads on in it, so a
+/// shows only its counts. It keeps the file that it read last open and reads on in it, so a
 /// file that is replaced meanwhile is read as it was, and one that cannot seek can be read once.
 #[derive(Drop)]
 pub struct HostDesk<'a, R: Files> {
@@ -48,7 +48,7 @@ fn read_kept<R: Files>(
     Ok(count)
 }
 
-// What a failed read is told as.
+// The answer for a failed read.
 fn answer_to(error: &io::Error) -> DeskAnswer
     ensures missing { error_kind error.now ≡ NotFound → result ≡ Missing }
     ensures failed { error_kind error.now ≢ NotFound → result ≡ Failed }

@@ -26,7 +26,7 @@ pub type FileList = List<File>;
 
 pub type CallList = List<u64>;
 
-/// A desk in memory, which tells all that it holds, fails at the calls of a list and can be told to move few bytes
+/// A desk in memory, which shows all that it holds, fails at the calls of a list and can be set to move few bytes
 /// a call. The calls are numbered from 0, those that answer Missing too.
 #[derive(Drop)]
 pub struct MemDesk {

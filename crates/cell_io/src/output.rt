@@ -64,7 +64,7 @@ fn put_all<D: Desk>(desk: &mut D, file: Option<&str>, bytes: &[u8]) -> Result<()
     Ok(())
 }
 
-/// Says all the bytes. After a fault a front of them was said.
+/// Says all the bytes. After a fault only a front of them was said.
 #[tactic(auto, using(crate::proofs::Puts::says_some))]
 pub fn say_all<D: Desk>(desk: &mut D, bytes: &[u8]) -> Result<(), WriteFault>
     ensures ok { OnOk result
@@ -80,7 +80,7 @@ pub fn say_all<D: Desk>(desk: &mut D, bytes: &[u8]) -> Result<(), WriteFault>
     put_all(desk, None, bytes)
 }
 
-/// Puts all the bytes at the end of a file that was made. After a fault a front of them stands there.
+/// Puts all the bytes at the end of a file that was made. After a fault only a front of them is there.
 #[tactic(auto, using(crate::proofs::Puts::appends_some))]
 pub fn append_all<D: Desk>(desk: &mut D, name: &str, bytes: &[u8]) -> Result<(), WriteFault>
     requires { IfSome (D.view desk.old).made (λ files. IsHeld files name.now) }

@@ -10,7 +10,7 @@ use std::io::{Read, Seek, SeekFrom};
 // The longest name that is kept; the system opens no longer one.
 const MOST_NAME: usize = 4096;
 
-/// A file that is open for reading, its name, and the place where it stands.
+/// A file that is open for reading, its name, and the place that it reads next.
 #[derive(Drop)]
 pub(crate) struct Reading<F> {
     name: ArrayString<MOST_NAME>,
@@ -19,7 +19,7 @@ pub(crate) struct Reading<F> {
 }
 
 impl<F: Read + Seek + Drop> Reading<F> {
-    /// A file that was just opened: it stands at its first byte.
+    /// A file that was just opened, at its first byte.
     pub(crate) fn new(name: &str, file: F) -> io::Result<Reading<F>>
         ensures name { IfOk result (λ reading. name_of reading ≡ name.now) }
         ensures file { IfOk result (λ reading. file_of reading ≡ file) }
@@ -42,15 +42,15 @@ impl<F: Read + Seek + Drop> Reading<F> {
     }
 
     /// Reads bytes from the place `from` on to the front of `into`, and answers how many. It seeks only
-    /// where the file does not stand there, so that one that cannot seek is read from front to end.
+    /// where the file is at another place, so that one that cannot seek is read from front to end.
     pub(crate) fn read_part(&mut self, from: u64, into: &mut [u8]) -> io::Result<usize>
         ensures within { IfOk result (λ count. count ≤ length into.new) }
-        // where the file tells its bytes and stands where it should, they are the bytes from there on
+        // where the file shows its bytes and is at the kept place, they are its bytes from `from` on
         ensures bytes { LeavesTheRest F.remaining F.stream_position F.stream_bytes →
             F.stream_position (file_of self.old) ≡ Some (place_of self.old) →
             IfOk result (λ count.
             IfSome (F.stream_bytes (file_of self.old)) (λ file. ReadsPart file from into.new count)) }
-        // where it stands there it only reads
+        // at that place already, it only reads
         ensures onward { place_of self.old ≡ from →
             ReadConsumes (F.remaining (file_of self.old)) (F.remaining (file_of self.new)) result into.new }
         ensures place { IfOk result (λ count. place_of self.new ≡ min (from + count) (2 ^ 64 - 1)) }
@@ -65,8 +65,8 @@ impl<F: Read + Seek + Drop> Reading<F> {
     }
 }
 
-/// Reads bytes in memory as a file is read. They tell what they are, so the contract of `Reading::read_part` says which
-/// ones come; nothing else calls it.
+/// Reads bytes in memory as a file. Contracts see these bytes, so the contract of `Reading::read_part` says which
+/// ones are read; nothing else calls it.
 #[tactic(auto, using(crate::proofs::Readings::cursor_leaves_the_rest))]
 pub fn read_memory(bytes: Vec<u8>, from: u64, into: &mut [u8]) -> io::Result<usize>
     ensures { IfOk result (λ count. ReadsPart bytes.items from into.new count) }

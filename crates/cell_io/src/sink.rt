@@ -2,7 +2,7 @@ ghost use Rattle.std.specs.Prelude.{◌≡◌, ◌+◌, ◌++◌, [], ℕ, List 
 
 use cell_num::NoMemory;
 
-/// What takes the bytes of a file part by part, in order. What it has made of them is a relation to what it was
+/// Takes the bytes of a file part by part, in order. What it has made of them is a relation to what it was
 /// before, so that it need not keep them.
 pub trait Sink {
     /// The second one is the first, after these bytes.
@@ -16,7 +16,7 @@ pub trait Sink {
         requires { may self.old (length part.now) }
         ensures { OnOk result (took self.old part.now self.new) };
 
-    /// Behind no bytes it is as before.
+    /// After no bytes it is as before.
     ghost none: { (a : Self) → took a [] a };
 
     /// After two parts, one after the other, it is after both together.

@@ -113,7 +113,7 @@ pub fn read_into<D: Desk, S: Sink>(
     requires { (count : ℕ) → count ≤ most → S.may sink.old count }
     ensures file { OnOk result
         (TookFile (λ bytes. S.took sink.old bytes sink.new) most (told (D.view desk.old).given name.now)) }
-    // exactly a told file that has more bytes is too long
+    // of files that contracts see, exactly one with more bytes is too long
     ensures too_long { IsErrOf result TooLong →
         IfSome (told (D.view desk.old).given name.now) (λ file. most < length file) }
     ensures missing { IsMissing (IsErrOf result Missing) name.now (D.view desk.old) (D.view desk.new) }
@@ -122,7 +122,7 @@ pub fn read_into<D: Desk, S: Sink>(
     ensures quiet { KeepsUnlessUnread result (D.view desk.old) (D.view desk.new) }
 {
     let Ok(mut buffer) = make_buffer(alloc) else {
-        // a file that is not there is told so all the same
+        // a missing file is still answered as missing
         read_next(desk, name, 0, &mut [0u8; 1])?;
         return Err(ReadFault::NoMemory);
     };
@@ -153,7 +153,7 @@ pub fn read_all<D: Desk>(
     ensures size { IfOk result (λ bytes. vec_len bytes ≤ most) }
     ensures file { IfOk result (λ bytes.
         IfSome (told (D.view desk.old).given name.now) (λ file. bytes.items ≡ file)) }
-    // exactly a told file that has more bytes is too long: it never comes whole
+    // of files that contracts see, exactly one with more bytes is too long: it is never read whole
     ensures too_long { IsErrOf result TooLong →
         IfSome (told (D.view desk.old).given name.now) (λ file. most < length file) }
     ensures fits { IfOk result (λ bytes.

@@ -11,7 +11,7 @@ use Rattle.dogleg_route.specs.declared.cut.Stretch.{Stretch}
 abbrev pub stretch : Wire → ℕ → ℕ → Stretch
 stretch w left right = record { left = left; right = right; net = w.net }
 
--- a node place of the wire's net behind the line
+-- a node place of the wire's net after the line
 abbrev pub cuts_at : Wire → ℕ → NodePlace → Bool
 cuts_at w from node = (node.net.0 == w.net.0) && ltb from node.line
 

@@ -15,7 +15,7 @@ pub record IsFirstPiece (pieces : List Trunk) (t : Trunk) : Type 0 where
   pub there : Contains pieces t
   pub none_before : (other : Trunk) → Contains pieces other → other.net ≡ t.net → t.left ≤ other.left
 
--- the net's label stands where the piece begins, on its track, where the channel begins at this height
+-- the net's label is where the piece begins, on its track, where the channel begins at this height
 pub record ShowsPiece (names : List (List ℕ)) (n_edge : ℕ) (xs : List ℕ) (shapes : Shapes) (t : Trunk) : Type 0 where
   pub label : Label
   pub listed : Contains shapes.labels label
@@ -24,7 +24,7 @@ pub record ShowsPiece (names : List (List ℕ)) (n_edge : ℕ) (xs : List ℕ) (
   pub place : label.x ≡ pos (x_of xs t.left)
   pub height : label.y ≡ pos (n_edge + 20 + 16 * t.track)
 
--- the name of each net with pieces stands on the first of them
+-- the name of each net with pieces is on the first of them
 abbrev pub ShowsFirsts : List (List ℕ) → Placement → List ℕ → Shapes → List Trunk → Type 0
 ShowsFirsts names placement xs shapes pieces =
     (t : Trunk) → IsFirstPiece pieces t → ShowsPiece names (channel_edge placement.row) xs shapes t

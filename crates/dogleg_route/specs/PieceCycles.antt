@@ -1,4 +1,4 @@
--- Cycles of pieces that stand above each other. A piece is told by its net and its first line.
+-- Cycles of pieces that are above each other. A piece is named by its net and its first line.
 use Rattle.std.specs.Prelude.{ℕ, ◌≡◌, ◌≢◌, ◌<◌, ◌⊎◌, List, [], ◌∷◌, length, All, AllPairs}
 use Rattle.std.specs.Bool.{⊤}
 use Rattle.cell_num.specs.declared.net.Pins.{Pins}
@@ -9,7 +9,7 @@ use Rattle.dogleg_route.specs.declared.piece.PieceStop.{PieceStop}
 use Rattle.dogleg_route.specs.declared.piece.PieceStop.TheVariants.{Cycle, NoMemory}
 use Rattle.dogleg_route.specs.Pieces.{IsPiece}
 
--- the first piece stands above the second at the line of its entry, where both end
+-- the first piece is above the second at the line of its entry, where both end
 pub record GoesDown (placement : Placement) (pins : Pins) (a b : WireAbove) : Type 0 where
   pub upper_right : ℕ
   pub upper : IsPiece placement pins a.net a.left upper_right
@@ -23,7 +23,7 @@ abbrev pub next_entry : List WireAbove → WireAbove → WireAbove
 next_entry [] back = back
 next_entry (a ∷ more) back = a
 
--- each piece stands above the next one, and the last above `back`
+-- each piece is above the next one, and the last above `back`
 abbrev pub IsWalkDown : Placement → Pins → List WireAbove → WireAbove → Type 0
 IsWalkDown placement pins [] back = ⊤
 IsWalkDown placement pins (a ∷ more) back =

@@ -1,5 +1,5 @@
--- Which cycle of pieces is told where there are several: that to which a walk comes from the first piece that can not
--- be placed. Each step goes down at the first line at which the piece stands above one that can not be placed, and of
+-- Which cycle of pieces is reported where there are several: that to which a walk leads from the first piece that can
+-- not be placed. Each step goes down at the first line at which the piece is above one that can not be placed, and of
 -- several there to the first.
 use Rattle.std.specs.Prelude.{ℕ, ◌≡◌, ◌<◌, ◌⊎◌, Bool, true, List, [], ◌∷◌}
 use Rattle.std.specs.Bool.{⊤}
@@ -14,7 +14,7 @@ use Rattle.dogleg_route.specs.PieceCycles.{GoesDown, next_entry, IsEntryEarlier}
 abbrev pub entry_at : NetNo → ℕ → ℕ → WireAbove
 entry_at net left line = record { net = net; left = left; line = line }
 
--- The piece can not be placed: it is in a set of pieces of which each stands above another one of the set.
+-- The piece can not be placed: it is in a set of pieces of which each is above another one of the set.
 pub record IsStuckPiece (placement : Placement) (pins : Pins) (net : NetNo) (left : ℕ) : Type 0 where
   pub set : NetNo → ℕ → Bool
   pub there : set net left ≡ true

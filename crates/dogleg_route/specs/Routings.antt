@@ -19,7 +19,7 @@ pub record GoesOver (net : NetNo) (left right : ℕ) (t : Trunk) : Type 0 where
 abbrev pub EndsAt : Trunk → ℕ → Type 0
 EndsAt t line = (t.left ≡ line) ⊎ (t.right ≡ line)
 
--- at a line at which both end the net of the one stands above that of the other
+-- at a line at which both end the net of the one is above that of the other
 pub record IsPieceAbove (placement : Placement) (pins : Pins) (upper lower : Trunk) (line : ℕ) : Type 0 where
   pub over : IsAbove placement pins upper.net lower.net line
   pub upper_ends : EndsAt upper line
@@ -29,8 +29,8 @@ pub record IsPieceAbove (placement : Placement) (pins : Pins) (upper lower : Tru
 abbrev pub StandsEarlier : Trunk → Trunk → Type 0
 StandsEarlier a b = (a.net.0 < b.net.0) ⊎ ((a.net ≡ b.net) × (a.left < b.left))
 
--- Each net that needs a trunk has pieces, and each of its pieces stands once; pieces of different nets on one
--- track have no line in common; a piece that stands above another has the higher track; every track has a piece.
+-- Each net that needs a trunk has pieces, and each of its pieces is there once; pieces of different nets on one
+-- track have no line in common; a piece that is above another has the higher track; every track has a piece.
 pub record ArePiecesLegal (placement : Placement) (pins : Pins) (routing : PieceRouting) : Type 0 where
   pub nets : (net : NetNo) → HasTrunk placement pins net ↔ Any (λ t. t.net ≡ net) routing.pieces
   pub pieces : (net : NetNo) (left right : ℕ) →
@@ -48,14 +48,14 @@ abbrev pub IsPieceEarlier : Trunk → Trunk → Type 0
 IsPieceEarlier a b =
     (a.left < b.left) ⊎ ((a.left ≡ b.left) × ((a.right < b.right) ⊎ ((a.right ≡ b.right) × (a.net.0 < b.net.0))))
 
--- On this track the piece would stand above each that it has to, and would share no line with an earlier one
+-- On this track the piece would be above each that it has to, and would share no line with an earlier one
 -- of another net.
 pub record IsPieceFree (placement : Placement) (pins : Pins) (pieces : List Trunk) (t : Trunk) (track : ℕ)
     : Type 0 where
   pub above : (b : Trunk) → Contains pieces b → (line : ℕ) → IsPieceAbove placement pins t b line → b.track < track
   pub clear : (o : Trunk) → Contains pieces o → o.track ≡ track → o.net ≢ t.net → IsPieceEarlier o t → AreApart o t
 
--- each piece stands on the least track that is free for it
+-- each piece is on the least track that is free for it
 abbrev pub ArePiecesTight : Placement → Pins → PieceRouting → Type 0
 ArePiecesTight placement pins routing =
     (t : Trunk) → Contains routing.pieces t → IsPieceFree placement pins routing.pieces t t.track

@@ -46,7 +46,7 @@ pub fn piece_distances(
 
 /// Draws a row of sound fingers that is routed in pieces, on lines that its distances allow, in a cell of the given
 /// height, or of the least where that is 0. The shapes obey every rule, extract to the fingers of the row, net by
-/// net, and show the row; the label of each net with pieces stands on the first of them.
+/// net, and show the row; the label of each net with pieces is on the first of them.
 pub fn draw_pieces(
     alloc: Global,
     names: &Names,

@@ -32,7 +32,7 @@ pub fn one_piece_routing()
         → ArePiecesLegal p pins b → ArePiecesTight p pins b → a ≡ b }
 {}
 
-/// Where no nets stand above each other in a cycle, no pieces do. It does nothing: its contract is the law.
+/// Where no nets are above each other in a cycle, no pieces do. It does nothing: its contract is the law.
 pub fn no_piece_cycle()
     ensures { (p : APlacement) (pins : SomePins) → HasNoCycle p pins → HasNoPieceCycle p pins }
 {}

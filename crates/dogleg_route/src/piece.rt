@@ -8,10 +8,10 @@ pub type Piece = Trunk;
 /// A list of pieces, in a routing in order of net and first line.
 pub type PieceList = TrunkList;
 
-/// A piece, named by its net and its first line, that stands above the next one of a cycle at a line.
+/// A piece, named by its net and its first line, that is above the next one of a cycle at a line.
 pub type PieceAbove = WireAbove;
 
-/// A cycle of pieces: each stands above the next one, the last above the first.
+/// A cycle of pieces: each is above the next one, the last above the first.
 pub type PieceCycle = WireCycleList;
 
 /// The pieces of a channel, in order of net and first line.
@@ -24,7 +24,7 @@ pub struct PieceRouting {
 /// Why a channel has no routing of pieces.
 #[derive(Debug, Drop)]
 pub enum PieceStop {
-    /// Each piece stands above the next one, the last above the first.
+    /// Each piece is above the next one, the last above the first.
     Cycle(PieceCycle),
     NoMemory,
 }

@@ -62,7 +62,7 @@ pub fn route_pieces(
     requires pins { HasPins placement.now pins.now }
     ensures legal { IfOk result (ArePiecesLegal placement.now pins.now) }
     ensures tight { IfOk result (ArePiecesTight placement.now pins.now) }
-    // where no net stands above another, the tracks are as many as trunks hold one line
+    // where no net is above another, the tracks are as many as trunks hold one line
     ensures density { IfOk result (λ routing. HasNoAbove placement.now pins.now → (q : Trunks)
         → IsLegal placement.now pins.now q → IsDensity q.trunks routing.tracks) }
     ensures acyclic { IfOk result (λ routing. HasNoPieceCycle placement.now pins.now) }

@@ -33,7 +33,7 @@ pub fn abstract_lengths()
         ≤ 322 + 220 * cell.pins.pins + 65 * length drawing.shapes.rects }
 {}
 
-/// The abstract of a drawing that stands in its frame can be read back: its names are words, and no length is beyond
+/// The abstract of a drawing in its frame can be read back: its names are words, and no length is beyond
 /// 1,000,000 microns. It does nothing: its contract is the law.
 pub fn readable_drawings()
     ensures { (cell : Subckt) (f : Frame) (xs : List ℕ) (d : Drawing) (unit : ℕ)

@@ -51,7 +51,7 @@ abbrev pub all_fingers : Technology → Subckt → Fingers
 all_fingers tech cell =
     record { nets = length cell.nets; p = fingers_in P tech cell.devices; n = fingers_in N tech cell.devices }
 
--- a count as a fault tells it: it stands still at the greatest number of 64 bits
+-- a count as a fault reports it: at most the greatest number of 64 bits
 abbrev pub saturated : ℕ → ℕ
 saturated count = min count (2 ^ 64 - 1)
 

@@ -37,7 +37,7 @@ abbrev pub shape_on : DrawContext → Option Rectangle → Result Shape GdsFault
 shape_on draw_context None = Err (fault.Grid draw_context.at)
 shape_on draw_context (Some rect) = Ok (record { layer = draw_context.layer; rect = rect })
 
--- the corners of the area as it stands are whole numbers of grid units within the limits of a drawing
+-- the corners of the area, moved to its place, are whole numbers of grid units within the limits of a drawing
 abbrev pub shape_of : DrawContext → Area → Result Shape GdsFault
 shape_of draw_context area =
     shape_on draw_context (rectangle_of draw_context.grid (moved_area draw_context.stands area))

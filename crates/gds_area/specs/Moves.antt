@@ -1,4 +1,4 @@
--- How a structure stands where it is referred to: mirrored or not, then turned, then moved.
+-- How a reference places a structure: mirrored or not, then turned, then moved.
 use Rattle.std.specs.Prelude.{Bool, true, false, not, ℤ, pos, neg_ℤ, ◌+ℤ◌, ◌*ℤ◌, ◌≤ℤ◌, ℕ, ◌*◌, ◌^◌}
 use Rattle.gds_area.specs.declared.placement.Turn.{Turn}
 use Rattle.gds_area.specs.declared.placement.Turn.TheVariants as turn
@@ -70,7 +70,7 @@ differ true b = not b
 abbrev pub offset_of : Move → Vector
 offset_of m = record { x = m.x; y = m.y }
 
--- what stands in a structure that stands itself somewhere
+-- the move of what is in a structure that is moved itself
 abbrev pub composed : Move → Move → Move
 composed outer inner = record {
   mirrored = differ outer.mirrored inner.mirrored;
@@ -85,7 +85,7 @@ composed outer inner = record {
 abbrev pub IsWithin : ℕ → ℤ → Type 0
 IsWithin digits z = (neg_ℤ (pos (2 ^ digits)) ≤ℤ z) × (z ≤ℤ pos (2 ^ digits))
 
--- N references stand in each other at most.
+-- At most N references are inside one another.
 pub record IsNear (levels : ℕ) (m : Move) : Type 0 where
   pub left : neg_ℤ (pos (levels * 2 ^ 52)) ≤ℤ m.x
   pub right : m.x ≤ℤ pos (levels * 2 ^ 52)

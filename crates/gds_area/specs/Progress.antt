@@ -55,10 +55,10 @@ Adds (Ok _) old new (Err e) = ⊥
 Adds (Err fault.NoMemory) old new read = Unit {0}
 Adds (Err f) old new read = read ≡ Err f
 
--- ---- how an element stands
+-- ---- how an element is placed
 
--- How an element stands, and the place that its faults name: nothing is moved in
--- the structure itself, and what is inside a reference stands as that does, with the outermost one's place.
+-- How an element is placed, and the place that its faults name: nothing is moved in
+-- the structure itself, and what is inside a reference is moved with it and has the outermost one's place.
 abbrev pub origin_of : Option Origin → ℕ → Origin
 origin_of None at = record { stands = stays; outer = at }
 origin_of (Some origin) at = origin

@@ -27,7 +27,7 @@ pub struct Area {
     pub upward: Span,
 }
 
-/// What an element draws with: the grid, how its structure stands, its layer, and the place of its points.
+/// What an element draws with: the grid, how its structure is placed, its layer, and the place of its points.
 #[derive(Clone, Copy, Debug, PartialEq, Eq)]
 pub struct DrawContext {
     pub grid: Grid,
@@ -102,7 +102,7 @@ fn cornered(grid: &Grid, first: &Vector, last: &Vector) -> Option<Rect>
     Some(between(across, upward))
 }
 
-// The area as it stands, in grid units.
+// The area at its place, in grid units.
 #[tactic(auto, unfolding(crate::specs::Moves::moved_area))]
 fn rectangle(grid: &Grid, stands: &Move, area: &Area) -> Option<Rect>
     requires grid { 1 ≤ grid.now.lambda_nm }

@@ -16,7 +16,7 @@ pub enum GdsFault {
     /// The length of a record or of its data.
     #[error("Length")]
     Length { at: u64 },
-    /// A record stands where the grammar has no place for it.
+    /// A record is where the grammar has no place for it.
     #[error("Order")]
     Order { at: u64, code: u8 },
     /// A record has another data type than its own, or the ends of a path have a form other than 0 and 2.
@@ -37,13 +37,13 @@ pub enum GdsFault {
     /// A coordinate is no whole number of grid units, or too large.
     #[error("Grid")]
     Grid { at: u64 },
-    /// A reference names no structure or one that stands twice, or is magnified, or turned by an angle that
+    /// A reference names no structure or a name that two have, or is magnified, or turned by an angle that
     /// is no quarter turn, or its records or the steps between its copies are not right.
     #[error("Reference")]
     Reference { at: u64 },
     #[error("NoMemory")]
     NoMemory,
-    /// More than 16 references stand in each other; the outermost one is here.
+    /// More than 16 references are inside one another; the outermost one is here.
     #[error("Deep")]
     Deep { at: u64 },
     /// Up to and with this element the structure has more than 1,000,000 rectangles and references.

@@ -1,4 +1,4 @@
-// What boundaries and paths of a GDSII file cover, as their structures stand: rectangles of a drawing in whole grid
+// What boundaries and paths of a GDSII file cover where their structures are placed: rectangles of a drawing in grid
 // units, or the fault. And how many rectangles and references are taken of a structure.
 #![tactic(auto)]
 

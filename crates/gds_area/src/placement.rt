@@ -1,4 +1,4 @@
-// How a structure stands where it is referred to.
+// How a reference places a structure.
 ghost use Rattle.std.specs.Prelude.{◌≡◌, ◌≤◌, ◌^◌, ℤ, pos, neg_ℤ, ◌+ℤ◌, ◌*ℤ◌, ◌≤ℤ◌};
 ghost use Rattle.gds_area.specs.Moves.{faced, moved, quarter_more, both_turns};
 ghost use Rattle.gds_area.specs.Moves.{seen_turn, differ, composed, IsWithin, IsNear};
@@ -123,7 +123,7 @@ fn offset(faced: i128, by: i64) -> i64
     (faced + i128::from(by)) as i64
 }
 
-/// How a structure stands that stands so in another one, which stands itself somewhere.
+/// The move of a structure inside another one, which is moved itself.
 pub fn composed(outer: &Move, inner: &Move, levels: u8) -> Move
     requires levels { levels ≤ 16 }
     requires outer { IsNear levels outer.now }

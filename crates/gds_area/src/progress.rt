@@ -10,7 +10,7 @@ use box_geom::Shapes;
 use cell_num::List;
 use std::alloc::Global;
 
-/// At most this number of references may stand in each other.
+/// At most this number of references may be inside one another.
 pub const MOST_LEVELS: u8 = 16;
 
 /// Shapes, and how many references were taken.
@@ -20,15 +20,15 @@ pub struct Progress {
     pub refs: u64,
 }
 
-/// How a structure stands that is referred to, and the place of the outermost reference.
+/// How a structure is placed that is referred to, and the place of the outermost reference.
 #[derive(Clone, Copy, Debug, PartialEq, Eq)]
 pub struct Origin {
     pub stands: Move,
     pub outer: u64,
 }
 
-/// What elements are drawn with: the grid, how their structure stands if it is referred to, and how many
-/// references may stand in each other there.
+/// What elements are drawn with: the grid, how their structure is placed if it is referred to, and how many
+/// references may be inside one another there.
 #[derive(Clone, Copy, Debug, PartialEq, Eq)]
 pub struct Context {
     pub grid: Grid,
@@ -49,7 +49,7 @@ pub fn no_progress(alloc: Global) -> Progress
     }
 }
 
-/// How an element at a place stands.
+/// How an element at a place is placed.
 pub fn origin_at(context: &Context, at: u64) -> Origin
     ensures { result ≡ origin_of context.now.origin at }
 {

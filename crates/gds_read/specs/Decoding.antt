@@ -20,7 +20,7 @@ use Rattle.gds_read.specs.Flat.{File, file_of, drawn_by, drawn}
 abbrev pub unit_in : List ℕ → ℕ
 unit_in units = if length units == 16 then picometres_at units 8 else 0
 
--- the UNITS of a library stands before its first structure
+-- the UNITS of a library is before its first structure
 abbrev pub units_of : List ℕ → List ℕ
 units_of bytes = content_of record_type.Units (until record_type.BgnStr (items_from bytes 0))
 

@@ -121,7 +121,7 @@ areas_along at reach points =
 abbrev pub path_areas_of : ℕ → List Item → Result (List Area) GdsFault
 path_areas_of at inside = reach_of inside >>= λ reach. areas_along at reach (points_of (xy_of inside))
 
--- the areas of an element, in halves of a file unit; its points stand at a place
+-- the areas of an element, in halves of a file unit; its points are at a place
 abbrev pub areas_of : ℕ → List Item → RecordType → Result (List Area) GdsFault
 areas_of at inside record_type.Boundary = boundary_areas at (points_of (xy_of inside))
 areas_of at inside record_type.Path = path_areas_of at inside

@@ -88,7 +88,7 @@ abbrev pub one_level : Below → File → Option Origin → ℕ → List Element
 one_level below file origin count elements = in_order (λ n e. element_by below file origin n e e.kind) count elements
 
 -- The copy of a structure is one reference more, and then its elements are drawn. N references at most may
--- stand in each other.
+-- be inside one another.
 unfoldable pub flat : ℕ → File → Below
 flat zero file = λ origin count elements. Err (fault.Deep origin.outer)
 flat (suc levels) file = λ origin count elements.
@@ -141,7 +141,7 @@ abbrev pub flat_in : List ℕ → Grid → ℕ → Origin → ℕ → ℕ → Re
 flat_in bytes grid levels origin count place =
     flat levels (file_of grid bytes) origin count (elements_of (items_from bytes place))
 
--- what the elements draw whose first records stand at some places
+-- what the elements draw whose first records are at some places
 abbrev pub drawn_told : List ℕ → Context → ℕ → Result GdsRec RecFault → Result Progress GdsFault
 drawn_told bytes context count (Ok r) = drawn_record bytes context count r
 drawn_told bytes context count (Err f) = Ok no_progress
@@ -152,7 +152,7 @@ drawn_at bytes context count place = drawn_told bytes context count (record_at b
 abbrev pub listed_in : List ℕ → Context → ℕ → List ℕ → Result Progress GdsFault
 listed_in bytes context count places = in_order (drawn_at bytes context) count places
 
--- what a record draws in a copy that stands so, before other records
+-- what a record draws in a copy that is placed so, before other records
 abbrev pub in_copy : List ℕ → Grid → ℕ → Origin → ℕ → Item → List Item → Result Progress GdsFault
 in_copy bytes grid levels origin count r rs =
     record_in bytes (record { grid = grid; origin = Some origin; levels = levels }) count r rs (type_numbered r.code)

@@ -1,5 +1,5 @@
 -- The grammar of a library, as a recognizer of the list of its records: which records of the table are
--- allowed at which place, and the first record that is not right where it stands.
+-- allowed at which place, and the first record that is not right at its place.
 use Rattle.std.specs.Prelude.{ℕ, ◌+◌, ◌%◌, ◌==◌, ◌||◌, ◌&&◌, not, nat_lt, is_some, Bool, true, false, List, [], ◌∷◌}
 use Rattle.std.specs.Prelude.{length, get_or, drop, position, Option, Some, None, Result, Ok, Err, if◌then◌else◌}
 use Rattle.cell_num.specs.Steps.{◌>>=◌}
@@ -168,7 +168,7 @@ goes_on Ended behind rest = behind
 goes_on _ behind rest = rest
 
 -- The records of the library, up to its end: the place after them, or the fault of the first record
--- that is not right where it stands.
+-- that is not right at its place.
 unfoldable pub pass : List ℕ → Place → List Item → RecFault → Result ℕ GdsFault
 pass bytes place [] end = Err (as_fault end)
 pass bytes place (r ∷ rs) end =

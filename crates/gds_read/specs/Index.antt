@@ -32,7 +32,7 @@ on_layer (Some on) some = some
 abbrev pub covers : RecordType → List Item → Bool
 covers kind inside = on_layer (layer_of inside) (has_areas (areas_of (xy_place inside) inside kind))
 
--- Whether an element of a type may draw where it stands, or have a fault. Texts draw nothing where no labels are
+-- Whether an element of a type may draw at its place, or have a fault. Texts draw nothing where no labels are
 -- asked for, and elements of other types nothing at all.
 abbrev pub element_draws : Bool → RecordType → List Item → Bool
 element_draws labels record_type.Boundary inside = covers record_type.Boundary inside

@@ -10,8 +10,8 @@ use Rattle.gds_read.specs.declared.grammar.Place.TheVariants.{Start, Ended}
 use Rattle.gds_read.specs.Grammar.{step_of, zeros_behind}
 use Rattle.gds_area.specs.Faults.{as_fault}
 
--- Each record, from a place of the bytes and a place of the grammar on, is right where it stands, and
--- they lead to another place of the grammar. After the end of the library stands no record.
+-- Each record, from a place of the bytes and a place of the grammar on, is right at its place, and
+-- they lead to another place of the grammar. After the end of the library there is no record.
 abbrev pub Follows : ℕ → Place → List Raw → Place → Type 0
 Follows at place [] last = place ≡ last
 Follows at Ended (r ∷ rs) last = ⊥
@@ -40,7 +40,7 @@ abbrev pub HasFault : List ℕ → ℕ → Place → GdsFault → Type 0
 HasFault bytes at Ended f = zeros_behind bytes at ≡ Err f
 HasFault bytes at place f = step_at bytes at place ≡ Err f
 
--- Whole records that are right where they stand, and after them the first that is not.
+-- Whole records that are right at their places, and after them the first that is not.
 pub record IsFirstFault (bytes : List ℕ) (f : GdsFault) : Type 0 where
   pub before : List Raw
   pub rest : List ℕ

@@ -1,4 +1,4 @@
--- What a reference says: which structure it names, and where the copies of it stand.
+-- What a reference says: which structure it names, and where its copies are.
 use Rattle.std.specs.Prelude.{ℕ, suc, ◌≡◌, ◌≤◌, ◌+◌, ◌*◌, ◌==◌, ◌&&◌, ◌||◌, not, nat_lt}
 use Rattle.std.specs.Prelude.{Bool, true, false, ℤ, pos, ◌+ℤ◌, ◌-ℤ◌, ◌*ℤ◌, unsigned_abs}
 use Rattle.std.specs.Prelude.{List, [], ◌∷◌, length, find, option_map, Option, Some, None, if◌then◌else◌}
@@ -39,7 +39,7 @@ Targets bytes (Some place) (Some one) = (one ≡ items_from bytes place) × (pla
 Targets bytes None None = Unit {0}
 Targets bytes _ _ = ⊥
 
--- ---- how often a record stands
+-- ---- how often a record is there
 
 abbrev pub times : RecordType → List Item → ℕ
 times kind [] = 0
@@ -98,7 +98,7 @@ facing_of inside =
     then faces (mirror_told (data_in record_type.STrans inside)) (turn_told (data_in record_type.Angle inside))
     else None
 
--- ---- where its copies stand
+-- ---- where its copies are
 
 abbrev pub is_count : ℕ → Bool
 is_count n = nat_lt 0 n && nat_lt n 32768

@@ -10,7 +10,7 @@ use Rattle.gds_write.specs.declared.library.Ref.{Ref}
 use Rattle.gds_write.specs.declared.library.Struct.{Struct}
 use Rattle.gds_write.specs.Written.{IsWritableName, IsWritableShape, IsWritableLabel, IsWritableStruct}
 
--- no zero byte stands at its end, so that none is taken for filling
+-- no zero byte is at its end, so that none is taken for filling
 abbrev pub HasNoZeroEnd : List ℕ → Type 0
 HasNoZeroEnd text = (front : List ℕ) → text ≡ front ++ 0 ∷ [] → ⊥
 
@@ -50,7 +50,7 @@ abbrev pub rects_of : Option Struct → List Shape
 rects_of None = []
 rects_of (Some s) = s.shapes.rects
 
--- a rectangle moved so far in x and in y
+-- a rectangle moved by these distances in x and in y
 abbrev pub rect_moved : ℤ → ℤ → Rectangle → Rectangle
 rect_moved x y r = record { x1 = r.x1 +ℤ x; y1 = r.y1 +ℤ y; x2 = r.x2 +ℤ x; y2 = r.y2 +ℤ y }
 

@@ -52,7 +52,7 @@ SoFar bytes lookup.NoCell rest all = rest ≡ all
 SoFar bytes lookup.Twice rest all = ⊥
 SoFar bytes (lookup.At place) rest all = items_from bytes place ∷ rest ≡ all
 
--- the place stands within the bytes
+-- the place is within the bytes
 abbrev pub IsWithin : ℕ → Lookup → Type 0
 IsWithin size (lookup.At place) = place ≤ size
 IsWithin size _ = Unit {0}

@@ -1,5 +1,5 @@
 -- The grammar of a library in its written form, over the types of its records. Records whose type the
--- table does not have may stand between them, but not before them.
+-- table does not have may be between them, but not before them.
 --
 --   library   ::= HEADER BGNLIB head structure* ENDLIB
 --   head      ::= UNITS | LIBNAME UNITS | UNITS LIBNAME
@@ -17,7 +17,7 @@ use Rattle.gds_read.specs.declared.grammar.ElementKind.TheVariants as element
 use Rattle.gds_read.specs.declared.grammar.Place.{Place}
 use Rattle.gds_read.specs.Grammar.{element_begun, is_allowed, follows}
 
--- what may stand inside an element, in any order
+-- what may be inside an element, in any order
 abbrev pub is_content : RecordType → Bool
 is_content record_type.Layer = true
 is_content record_type.DataType = true

@@ -225,7 +225,7 @@ fn add_record(
     }
 }
 
-/// What the elements draw whose first records stand at some places.
+/// What the elements draw whose first records are at some places.
 #[tactic(auto, using(gds_record::proofs::Walks::moves, crate::proofs::Listed::listed_rules))]
 #[cycle(references)]
 pub fn add_elements(

@@ -15,7 +15,7 @@ pub enum ElementKind {
     Other,
 }
 
-/// Which records of an element were met that may stand in it once.
+/// Which records of an element were met that it may have once.
 #[derive(Clone, Copy, Debug, PartialEq, Eq)]
 pub struct Seen {
     pub layer: bool,

@@ -13,7 +13,7 @@ use gds_area::{GdsFault, Grid, MOST_RECTANGLES, Progress, floor_units, signed};
 use gds_record::{GdsRec, RecordType};
 use std::alloc::Global;
 
-/// Where a label stands, in grid units.
+/// The place of a label, in grid units.
 #[derive(Clone, Copy, Debug, PartialEq, Eq)]
 pub struct Spot {
     pub layer: Layer,

@@ -1,4 +1,4 @@
-// Where the copies of a reference stand, unturned.
+// The places of the copies of a reference, before it is turned.
 ghost use Rattle.std.specs.Prelude.{◌≡◌, ◌≤◌, ◌<◌, ◌^◌, pos, neg_ℤ, ◌+ℤ◌, ◌-ℤ◌, ◌≤ℤ◌, option_map, IfSome};
 ghost use Rattle.std.specs.Int.{int_div_euclid};
 ghost use Rattle.gds_read.specs.References.{counts_of, two_counts, counts_told, divides, has_steps};
@@ -7,7 +7,7 @@ ghost use Rattle.gds_read.specs.References.{lattice_on, may_stand, lattice_of, s
 use gds_area::{Point, read_point};
 use gds_record::RecordType;
 
-/// How many columns and rows of copies stand.
+/// The numbers of columns and rows of copies.
 #[derive(Clone, Copy, Debug, PartialEq, Eq)]
 pub struct Counts {
     pub columns: u16,

@@ -34,7 +34,7 @@ pub fn accepted_libraries()
 {}
 
 /// What a library is decoded to is the cell of the name in it, and only that. Else the fault is that of
-/// the first record that is not right where it stands; in a library it is that no structure has the name,
+/// the first record that is not right at its place; in a library it is that no structure has the name,
 /// or that two have it; and where one has it, that of its first faulty element. It does nothing: its
 /// contract is the law.
 pub fn decoded_cells()
@@ -60,7 +60,7 @@ pub fn written_grammar()
 
 /// Each of the eight walks round a rectangle, left open or taken round, is that rectangle. The cells of a
 /// boundary are those from which a line to the left crosses an odd number of its sides; each of its
-/// rectangles is a run of them between neighbouring heights of its points, in order. A label stands at
+/// rectangles is a run of them between neighbouring heights of its points, in order. A label is at
 /// the greatest whole number of grid units that is not above its point. It does nothing: its contract is
 /// the law.
 pub fn drawn_elements()

@@ -67,7 +67,7 @@ fn read_elements(alloc: Global, bytes: &[u8], place: u64, grid: &Grid) -> Result
     Ok(progress.shapes)
 }
 
-// The structure's name stands twice.
+// Two structures have the name.
 fn twice(name: &Name) -> GdsFault
     ensures { IsTwiceOf name.now result }
 {

@@ -202,7 +202,7 @@ pub fn read_array(bytes: &[u8], kind: RecordType, rec: &GdsRec) -> Option<Array>
     }
 }
 
-/// How one of the copies stands.
+/// How one of the copies is placed.
 #[tactic(auto, using(crate::proofs::Steps::near_one))]
 pub fn copy_at(array: &Array, column: u16, row: u16) -> Move
     requires column { column < array.now.lattice.columns }

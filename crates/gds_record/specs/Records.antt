@@ -8,7 +8,7 @@ use Rattle.gds_record.specs.declared.record.RecFault.TheVariants.{Cut, Length}
 use Rattle.gds_record.specs.declared.types.RecordType.{RecordType}
 use Rattle.gds_record.specs.Types.{number_of, data_type_of, data_number_of}
 
--- a record as it is meant, wherever it stands
+-- a record as it is meant, wherever it is
 pub record Raw : Type 0 where
   pub code : ℕ
   pub form : ℕ
@@ -87,7 +87,7 @@ records_from bytes at = walk (suc (length bytes)) bytes at
 abbrev pub items_from : List ℕ → ℕ → List Item
 items_from bytes at = (records_from bytes at).items
 
--- the record where it stands
+-- the record at its place
 abbrev pub item : ℕ → Raw → Item
 item at r = record { at = at; code = r.code; form = r.form; content = r.content; next = at + (length r.content + 4) }
 

@@ -1,4 +1,4 @@
-// Records of the GDSII Stream format, release 6: what stands at a place of a file, the published types
+// Records of the GDSII Stream format, release 6: what is at a place of a file, the published types
 // of records and of their data, and the numbers of layers.
 #![tactic(auto)]
 

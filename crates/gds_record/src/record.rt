@@ -14,7 +14,7 @@ pub struct GdsRec {
     pub next: u64,
 }
 
-/// Why no record stands at a place.
+/// Why no record is at a place.
 #[derive(Debug, PartialEq, Eq, Drop, Error)]
 pub enum RecFault {
     /// The bytes end before the record does.

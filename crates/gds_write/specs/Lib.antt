@@ -1,2 +1,2 @@
--- What contracts of public calls cite, and what these definitions stand on.
+-- What contracts of public calls cite, and what these definitions use.
 pub mod Written

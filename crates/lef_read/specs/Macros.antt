@@ -30,7 +30,7 @@ sides_in unit r = with_sides (units_in unit r.x1) (units_in unit r.y1) (units_in
 abbrev pub rect_in : ℕ → Box → Option LefRect
 rect_in unit box = option_map (λ r. record { layer = box.layer; rect = r }) (sides_in unit box.sides)
 
--- ---- what stands in a macro
+-- ---- what is in a macro
 
 abbrev pub up_to_next : List Item → List Item
 up_to_next [] = []

@@ -8,7 +8,7 @@ use Rattle.std.specs.Str.Parse.{digits_value}
 abbrev pub is_point : ℕ → Bool
 is_point b = b == 46
 
--- what stands before the first point, and what after it
+-- what is before the first point, and what after it
 abbrev pub before_point : List ℕ → List ℕ
 before_point [] = []
 before_point (b ∷ bs) = if is_point b then [] else b ∷ before_point bs

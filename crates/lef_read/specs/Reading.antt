@@ -1,4 +1,4 @@
--- The statements of a LEF library, token by token: what may stand at each place, and what it gives.
+-- The statements of a LEF library, token by token: what may be at each place, and what it gives.
 use Rattle.std.specs.Prelude.{ℕ, ◌&&◌, ◌==◌, Bool, ℤ, int_lt, unsigned_abs, List, [], ◌∷◌, ◌++◌, codes}
 use Rattle.std.specs.Prelude.{Option, Some, None, Result, Ok, Err, bytes_eq, if◌then◌else◌}
 use Rattle.box_geom.specs.Rectangle.{Rectangle}
@@ -159,7 +159,7 @@ ascending r = int_lt r.x1 r.x2 && int_lt r.y1 r.y2
 abbrev pub sides_told : Block → Current → ℕ → Rectangle → Result Told LefFault
 sides_told block layer line sides = if ascending sides then rect_told block layer line sides else Err (Number line)
 
--- ---- what may stand at a place
+-- ---- what may be at a place
 
 abbrev pub at_word : Place → ℕ → List ℕ → Result Told LefFault
 at_word (At between) n w = begins between n (keyword_of w)
@@ -233,7 +233,7 @@ abbrev pub then_read : Result Told LefFault → (Place → Result (List Item) Le
 then_read (Ok told) rest = with_items told.items (rest told.next)
 then_read (Err f) rest = Err f
 
--- what tokens tell from a place on, or the first fault: a token that may not stand where it stands, or an end too early
+-- what tokens give from a place on, or the first fault: a token that may not be where it is, or an end too early
 unfoldable pub read : Place → List Token → Result (List Item) LefFault
 read p [] = ended_at p
 read p (t ∷ ts) = then_read (step_of p t) (λ next. read next ts)

@@ -14,7 +14,7 @@ use Rattle.lef_read.specs.declared.token.Token.TheVariants as token
 use Rattle.lef_read.specs.declared.fault.LefFault.{LefFault}
 use Rattle.lef_read.specs.declared.fault.LefFault.TheVariants.{Statement, Number, Cut}
 
--- no white space and no comment stands at the start
+-- the start is no white space and no comment
 abbrev pub begins_token : List ℕ → Bool
 begins_token [] = true
 begins_token (b ∷ bs) = not (is_white b || b == 35)
@@ -77,7 +77,7 @@ passed (Quoted n ∷ ts) = passed ts
 passed (Semicolon n ∷ ts) = Ok (tt, ts)
 passed (Torn ∷ ts) = Err Cut
 
--- up to and with END UNITS; an END may stand before it
+-- up to and with END UNITS; an END may be before it
 unfoldable pub units_passed : Bool → List Token → Taken (Unit {0})
 units_passed end [] = Err Cut
 units_passed true (Word n w ∷ ts) = if is w (codes "UNITS") then Ok (tt, ts) else units_passed (is w (codes "END")) ts
@@ -134,7 +134,7 @@ abbrev pub line_at : ℕ → List ℕ → ℕ
 line_at n [] = n
 line_at n (b ∷ bs) = line_at (line_behind n b) bs
 
--- what the bytes between two tokens stand in
+-- what the bytes between two tokens are in
 abbrev pub between_tokens : Bool → Inside
 between_tokens true = AComment
 between_tokens false = Nothing

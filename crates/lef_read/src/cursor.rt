@@ -197,7 +197,7 @@ impl<'a> Cursor<'a> {
         }
     }
 
-    /// Takes a word that has to be the name as it stands.
+    /// Takes a word that has to be exactly the name.
     pub fn named(&mut self, name: &[u8]) -> Result<(), LefFault>
         ensures steps { Steps result (named_in name.now self.old) self.new }
         ensures less { OnOk result (length self.new ≤ length self.old) }

@@ -6,7 +6,7 @@ use thiserror::Error;
 /// Why no macro is read. `line` is a line of the text, counted from 1 by line feeds.
 #[derive(Debug, PartialEq, Eq, Drop, Error)]
 pub enum LefFault {
-    /// A token stands where the reading allows none such, an origin is not (0, 0), or a rectangle has no layer.
+    /// A token that the reading does not allow at its place, an origin other than (0, 0), or a rectangle with no layer.
     #[error("Statement")]
     Statement { line: u32 },
     /// A number of another form, or the sides of a rectangle that do not ascend.

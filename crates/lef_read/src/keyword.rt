@@ -1,7 +1,7 @@
 ghost use Rattle.std.specs.Prelude.{◌≡◌};
 ghost use Rattle.lef_read.specs.Keywords.{is, is_header, block_word, keyword_of};
 
-/// The keywords of LEF that the reading knows, which stand in either case.
+/// The keywords of LEF that the reading knows, in upper or lower case.
 #[derive(Clone, Copy, Debug, PartialEq, Eq)]
 pub enum Keyword {
     By,

@@ -15,8 +15,8 @@ pub fn never_memory()
     ensures { (bytes name : List ℕ) (unit : ℕ) → macro_in bytes name unit ≢ Err fault.NoMemory }
 {}
 
-/// A macro that agrees with a drawing that has a netlist differs from it in nothing, and all differences
-/// that an answer may tell are one.
+/// A macro that agrees with a drawing that has a netlist has no difference from it. All differences
+/// that an answer may give are equal.
 #[tactic(auto, using(crate::proofs::OneAnswer::agrees_alone, crate::proofs::OneAnswer::one_answer))]
 pub fn one_answer()
     ensures agrees { (shapes : Shapes) (cell : Macro) (d : Differ) → HasNetlist shapes → Agrees shapes cell →

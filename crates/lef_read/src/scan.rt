@@ -70,7 +70,7 @@ pub fn word_length(bytes: &[u8]) -> usize
     bytes.len()
 }
 
-/// How many bytes stand before the first quote, or all of them.
+/// The number of bytes before the first quote, or of all bytes where there is none.
 pub fn until_quote(bytes: &[u8]) -> usize
     ensures is { result ≡ until_quote bytes.now }
     ensures within { result ≤ length bytes.now }

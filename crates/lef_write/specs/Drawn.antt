@@ -31,7 +31,7 @@ use Rattle.lef_write.specs.Ports.{port_shapes, ports_of, obstructions}
 abbrev pub shapes_on : Layer → List Shape → List Shape
 shapes_on layer rects = filter (λ (s : Shape). same_layer s.layer layer) rects
 
--- a label of this name stands on the shape
+-- a label of this name is on the shape
 pub record IsLabelled (labels : List Label) (word : List ℕ) (s : Shape) : Type 0 where
   pub label : Label
   pub listed : Contains labels label
@@ -43,7 +43,7 @@ pub record IsLabelled (labels : List Label) (word : List ℕ) (s : Shape) : Type
 abbrev pub ports_in : Pins → Routing → Drawing → List Port
 ports_in pins r d = ports_of pins r.trunks d.shapes.rects
 
--- the pin has exactly one port, and the label of its name stands there
+-- the pin has exactly one port, and the label of its name is there
 pub record HasPort (names : List (List ℕ)) (ports : List Port) (d : Drawing) (n : ℕ) : Type 0 where
   pub shape : Shape
   pub one : port_shapes ports d.shapes.rects (net_no n) ≡ shape ∷ []
@@ -52,7 +52,7 @@ pub record HasPort (names : List (List ℕ)) (ports : List Port) (d : Drawing) (
 abbrev pub IsMetal1 : Shape → Type 0
 IsMetal1 s = s.layer ≡ Metal1Layer
 
--- the pin has these ports, all of metal1, and the label of its name stands on the first
+-- the pin has these ports, all of metal1, and the label of its name is on the first
 pub record HasPorts (names : List (List ℕ)) (ports : List Port) (d : Drawing) (n : ℕ) : Type 0 where
   pub first : Shape
   pub others : List Shape

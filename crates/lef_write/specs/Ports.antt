@@ -12,9 +12,9 @@ use Rattle.channel_route.specs.declared.routing.Trunk.{Trunk}
 use Rattle.cell_draw.specs.Layouts.{net_no}
 use Rattle.lef_write.specs.declared.port.Port.{Port}
 
--- ---- where metal1 stands
+-- ---- the places of metal1
 
--- the place of a shape that stands on the layer
+-- the place of a shape that is on the layer
 abbrev pub place_on : Layer → ℕ × Shape → Option ℕ
 place_on layer placed = if same_layer placed.1.layer layer then Some placed.0 else None
 
@@ -29,7 +29,7 @@ last_ones count xs = drop (length xs - count) xs
 abbrev pub port_with : NetNo → ℕ → Port
 port_with pin place = record { pin = pin; shape = place }
 
--- a rail, where it stands
+-- a rail at its place
 abbrev pub rail_port : NetNo → Option ℕ → List Port
 rail_port pin place = option_to_list (option_map (port_with pin) place)
 
@@ -37,7 +37,7 @@ rail_port pin place = option_to_list (option_map (port_with pin) place)
 abbrev pub trunk_port : NetNo → Trunk × ℕ → Option Port
 trunk_port pin placed = if placed.0.net.0 == pin.0 then Some (port_with pin placed.1) else None
 
--- the trunks of the pin's net, which stand at these places
+-- the trunks of the pin's net, which are at these places
 abbrev pub trunk_ports : NetNo → List Trunk → List ℕ → List Port
 trunk_ports pin trunks places = filter_map (trunk_port pin) (zip trunks places)
 
@@ -58,7 +58,7 @@ ports_of pins trunks rects = flat_map (ports_on pins trunks (places_on Metal1 re
 
 -- ---- what ports and obstructions are
 
--- a shape of the layer stands at this place
+-- a shape of the layer is at this place
 pub record IsOn (layer : Layer) (rects : List Shape) (place : ℕ) : Type 0 where
   pub shape : Shape
   pub there : slice_get rects place ≡ Some shape
@@ -76,7 +76,7 @@ shape_of pin rects port = if port.pin.0 == pin.0 then slice_get rects port.shape
 abbrev pub port_shapes : List Port → List Shape → NetNo → List Shape
 port_shapes ports rects pin = filter_map (shape_of pin rects) ports
 
--- a port stands at this place
+-- a port is at this place
 abbrev pub is_taken : List Port → ℕ → Bool
 is_taken ports place = list_any (λ (port : Port). port.shape == place) ports
 

@@ -14,7 +14,7 @@ ghost use Rattle.cell_draw.specs.Layouts.{width_of};
 ghost use Rattle.cell_draw.specs.Sound.{IsSoundRow};
 ghost use Rattle.lef_write.specs.Drawn.{AreAllMetal, AreOfNet, HasPort, HasPorts, HasTrunkPorts, IsSized, ports_in};
 
-/// In the drawing of a routed row each pin has exactly one port, on which the label of its name stands; every
+/// In the drawing of a routed row each pin has exactly one port, on which the label of its name is; every
 /// cell of it is in the pin's net; the obstructions are exactly the rest of its metal; and the macro's size
 /// is that of its metal1. It does nothing: its contract is the law.
 pub fn drawn_ports()
@@ -35,7 +35,7 @@ pub fn drawn_ports()
         → IsSized (drawn_of names pins p r xs height) }
 {}
 
-/// In the drawing of a wired row each pin has one port or more, all of metal1, and the label of its name stands
+/// In the drawing of a wired row each pin has one port or more, all of metal1, and the label of its name is
 /// on the first; a pin that is no rail has one for each trunk of its net; every cell of each is in the pin's net;
 /// the macro's size is that of its metal1. It does nothing: its contract is the law.
 pub fn wired_ports()

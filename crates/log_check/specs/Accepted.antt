@@ -30,7 +30,7 @@ abbrev pub AreJustified : (Row → State → Kinds → ℕ) → Kinds → List L
 AreJustified value k lemmas = (i : ℕ) (d : Lemma) → i < length lemmas
     → IsJustified value k (λ s. best_of s (take i lemmas)) (slice_index_or lemmas i d)
 
--- every completion of the state has so many further gaps
+-- every completion of the state has that many further gaps
 abbrev pub IsTrueOf : Kinds → Lemma → Type 0
 IsTrueOf k lemma = Need k lemma.state lemma.bound
 

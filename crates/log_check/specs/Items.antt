@@ -15,7 +15,7 @@ use Rattle.log_check.specs.declared.refused.Refused.TheVariants as because
 use Rattle.log_check.specs.Accepted.{AreJustified}
 use Rattle.log_check.specs.Refusal.{LemmasRefuse}
 
--- What a checker of logs for these fingers, with their kinds, has come to.
+-- What a checker of logs for these fingers, with their kinds, has found up to now.
 pub record Checked : Type 0 where
   -- the version of the log
   pub version : ℕ
@@ -38,7 +38,7 @@ pub record Checking (B : Type 0) : Type 0 where
 abbrev pub AreBest : Kinds → (State → ℕ) → List Lemma → Type 0
 AreBest k best lemmas = (s : State) → IsState k s → best s ≡ best_of s lemmas
 
--- all lemmas are justified, and their best bounds are known; or the first that is not stands at the line
+-- all lemmas are justified, and their best bounds are known; or the first that is not is at the line
 abbrev pub IsFound : (Row → State → Kinds → ℕ) → Checked → Option ℕ → List Lemma → Type 0
 IsFound value c None lemmas = AreJustified value c.kinds lemmas × AreBest c.kinds (best_noted c.known c.kinds) lemmas
 IsFound value c (Some line) lemmas = LemmasRefuse value c.kinds lemmas (because.Unproved line)

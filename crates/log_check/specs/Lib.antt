@@ -1,4 +1,4 @@
--- What contracts of public calls cite, and what these definitions stand on.
+-- What contracts of public calls cite, and what these definitions use.
 pub mod Accepted
 pub mod Items
 pub mod Refusal

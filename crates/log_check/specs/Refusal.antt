@@ -40,7 +40,7 @@ BestRefuses k f best None because.NoMemory = Unit {0}
 BestRefuses k f best None _ = ⊥
 BestRefuses k f best (Some row) fault = RowRefuses k f best row fault
 
--- the lemma numbered i stands at line i + 3 of the text
+-- the lemma numbered i is at line i + 3 of the text
 abbrev pub LemmasRefuse : (Row → State → Kinds → ℕ) → Kinds → List Lemma → Refused → Type 0
 LemmasRefuse value k lemmas (because.Unproved line) = (at : ℕ) × IsFirstUnjustified value k lemmas at × (line ≡ at + 3)
 LemmasRefuse value k lemmas because.NoMemory = Unit {0}
@@ -53,7 +53,7 @@ Refuses value k f log because.NoMemory = Unit {0}
 Refuses value k f log fault = AreJustified value k log.lemmas
     × BestRefuses k f (best_of (start_of k) log.lemmas) log.best fault
 
--- so it is of the number of gaps that the lemmas prove, where the refusal tells it
+-- this holds of the number of gaps that the lemmas prove, where the refusal reports it
 abbrev pub Proves : (ℕ → Type 0) → Refused → Type 0
 Proves Says (because.NoRow best) = Says best
 Proves Says (because.NotLeast best said) = Says best

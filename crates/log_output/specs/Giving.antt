@@ -18,7 +18,7 @@ abbrev pub OnlyPuts : Place → View → View → Type 0
 OnlyPuts None old new = OnlySays old new
 OnlyPuts (Some name) old new = OnlyAppends old new
 
--- no call of the desk failed but the one that the answer tells of
+-- no call of the desk failed except the one that the answer reports
 abbrev pub KeepsUntold : {X : Type 0} → Result X WriteFault → View → View → Type 0
 KeepsUntold (Ok x) old new = IsQuiet old new
 KeepsUntold (Err Failed) old new = new.shorts ≡ old.shorts

@@ -5,7 +5,7 @@ use Rattle.bound_log.specs.declared.log.Log.{Log}
 use Rattle.bound_log.specs.Fits.{Fits, ForSome, IsLogName}
 use Rattle.bound_log.specs.Kept.{HasRoom}
 
--- What the lines of a log ask for: a name that stands in a line, lemmas and columns that a text can hold, room for each
+-- What the lines of a log ask for: a name that is in a line, lemmas and columns that a text can hold, room for each
 -- lemma, and an empty block.
 pub record CanBeGiven (name : List ℕ) (log : Log) (lemma : Lemma) (block : List ℕ) : Type 0 where
   pub named : IsLogName name

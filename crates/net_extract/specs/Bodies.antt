@@ -29,7 +29,7 @@ abbrev pub IsBelow : Row → List Shape → Rectangle → Cell → Type 0
 IsBelow P s box c = SameClass (On Well s) box.x1 box.y1 c.x c.y
 IsBelow N s box c = Unit {0}
 
--- the site is a conductor cell of a tap of the well, or of the substrate, that a device stands on
+-- the site is a conductor cell of a tap of the well, or of the substrate, that a device is in
 pub record IsTapFor (row : Row) (s : List Shape) (box : Rectangle) (a : Site) : Type 0 where
   pub kind : a.kind ≡ diffusion_of row
   pub conducts : Conducts s a

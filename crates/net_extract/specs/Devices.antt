@@ -96,7 +96,7 @@ pub record IsSomeDevice (deck : Deck) (s : List Shape) (box : Rectangle) : Type 
   pub length : ℕ
   pub is : IsDevice deck s box row gate left right width length
 
--- the cell (x, y) does not come behind (u, v): by row from below, then from the left
+-- the cell (x, y) does not come after (u, v): by row from below, then from the left
 pub record NotBehindCell (x y u v : ℤ) : Type 0 where
   pub row : y ≤ℤ v
   pub column : v ≤ℤ y → x ≤ℤ u

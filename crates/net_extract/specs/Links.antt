@@ -25,14 +25,14 @@ pub record AreLinked (z : Shape) (ps : List Piece) (i j : ℕ) : Type 0 where
   pub at_other : slice_get ps j ≡ Some other
   pub joined : AreJoined (z ∷ []) one other
 
--- the numbers stand in one tree, or the contact or via links their pieces
+-- the numbers are in one tree, or the contact or via links their pieces
 abbrev pub InTreeOrLinked : List ℕ → Shape → List Piece → ℕ → ℕ → Type 0
 InTreeOrLinked parents z ps i j = InTree parents i j ⊎ AreLinked z ps i j
 
--- what the contact or via links stands in one tree
+-- what the contact or via links is in one tree
 pub record AreInOneTree (parents : List ℕ) (z : Shape) (ps : List Piece) : Type 0 where
   pub joined : (i j : ℕ) → AreLinked z ps i j → InTree parents i j
 
--- the pieces from number i on and below k that the contact or via reaches stand in the tree of number r
+-- the pieces from number i on and below k that the contact or via reaches are in the tree of number r
 pub record AreUnder (parents : List ℕ) (z : Shape) (ps : List Piece) (i k r : ℕ) : Type 0 where
   pub under : (j : ℕ) → i ≤ j → j < k → is_reached z (get_or ps j blank) ≡ true → InTree parents j r

@@ -1,5 +1,5 @@
 -- Names of nets, from the labels that each net holds. A net may hold one label many times, but no two different ones,
--- and a label stands in one net.
+-- and a label is in one net.
 use Rattle.std.specs.Prelude.{◌≡◌, ℕ, Bool, not, ◌&&◌, ◌==◌, Option, Some}
 use Rattle.std.specs.Prelude.{None, is_some, List, ◌++◌, map, codes, decimal}
 use Rattle.std.specs.Option.{option_map}
@@ -30,11 +30,11 @@ other_of n held = other_than (label_of n held) n held
 abbrev pub short_net : List NetLabel → ℕ → Option ℕ
 short_net held count = find (λ n. is_some (other_of n held)) (range_with_len 0 count)
 
--- a label's name stands in another net as well
+-- a label's name is in another net as well
 abbrev pub stands_elsewhere : List NetLabel → NetLabel → Bool
 stands_elsewhere held label = list_any (λ (h : NetLabel). not (h.net == label.net) && bytes_eq h.name label.name) held
 
--- the first label that stands in two nets
+-- the first label that is in two nets
 abbrev pub split_name : List NetLabel → Option (List ℕ)
 split_name held = option_map (λ (h : NetLabel). h.name) (find (stands_elsewhere held) held)
 
@@ -43,7 +43,7 @@ pub record IsAgreed (held : List NetLabel) (count : ℕ) : Type 0 where
   pub no_short : short_net held count ≡ None
   pub no_split : split_name held ≡ None
 
--- a net goes by its first label, and by `_` and its number where it has none
+-- a net's name is its first label, or `_` and its number where it has none
 abbrev pub name_or_number : ℕ → Option (List ℕ) → List ℕ
 name_or_number n (Some name) = name
 name_or_number n None = codes "_" ++ decimal n
@@ -62,7 +62,7 @@ pub record IsShort (held : List NetLabel) (count : ℕ) (one other : List ℕ) :
   pub first : label_of net held ≡ Some one
   pub differs : other_of net held ≡ Some other
 
--- the first label that stands in two nets, where no net has two labels
+-- the first label that is in two nets, where no net has two labels
 pub record IsSplit (held : List NetLabel) (count : ℕ) (name : List ℕ) : Type 0 where
   pub no_short : short_net held count ≡ None
   pub split : split_name held ≡ Some name
@@ -73,7 +73,7 @@ IsNameFault held count (Split name) = IsSplit held count name
 IsNameFault held count NoMemory = Unit {0}
 IsNameFault held count _ = ⊥
 
--- ---- what single steps answer; want of memory may come in place of each
+-- ---- what single steps answer; out of memory may be the answer in place of each
 abbrev pub IsShortOf : List ℕ → List ℕ → ExtractFault → Type 0
 IsShortOf one other (Short a b) = (a ≡ one) × (b ≡ other)
 IsShortOf one other NoMemory = Unit {0}

@@ -60,7 +60,7 @@ blocks_of n layer pieces = map (λ (p : NetPiece). p.block) (filter (of_net n la
 abbrev pub net_labelled : List NetLabel → List ℕ → Option ℕ
 net_labelled held name = option_map (λ (h : NetLabel). h.net) (find (λ (h : NetLabel). bytes_eq h.name name) held)
 
--- the net that a label stands in
+-- the net that a label is in
 abbrev pub net_named : NetMap → List ℕ → Option ℕ
 net_named m name = net_labelled m.labels name
 

@@ -15,7 +15,7 @@ rank Poly = 1
 rank Metal1 = 2
 rank Metal2 = 3
 
--- site a does not come behind site b
+-- site a does not come after site b
 pub record NotBehind (a b : Site) : Type 0 where
   pub row : a.cell.y ≤ℤ b.cell.y
   pub column : b.cell.y ≤ℤ a.cell.y → a.cell.x ≤ℤ b.cell.x

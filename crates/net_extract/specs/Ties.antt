@@ -1,4 +1,4 @@
--- Ties of taps as the code numbers them: the substrate is 0, and behind it come the classes of well cells.
+-- Ties of taps as the code numbers them: the substrate is 0, and after it come the classes of well cells.
 use Rattle.std.specs.Prelude.{ℕ, ◌+◌, ◌==◌, ℤ, if◌then◌else◌, Option, Some, None, List, map, ◌⊎◌}
 use Rattle.std.specs.Option.{option_map}
 use Rattle.std.specs.List.{find, filter_map}

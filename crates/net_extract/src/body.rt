@@ -1,4 +1,4 @@
-// The bodies of devices: for each device the net of the taps that it stands on.
+// The bodies of devices: for each device the net of the taps of its well or of the substrate.
 ghost use Rattle.std.specs.Prelude.{◌≡◌, ◌++◌, ◌<◌, IfOk, OnOk, option_to_list};
 ghost use Rattle.net_extract.specs.GateNets.{boxes_of};
 ghost use Rattle.net_extract.specs.Pieces.{rect_of};

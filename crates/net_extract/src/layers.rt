@@ -9,7 +9,7 @@ use cell_num::{List, NoMemory};
 use std::alloc::Global;
 use std::marker::Model;
 
-/// The shapes of a drawing. Those of the layers of devices stand by themselves as well, so that who looks at one
+/// The shapes of a drawing. Those of the layers of devices are kept apart as well, so that a search of one
 /// of these layers passes none of the others. Contracts see the list of all shapes.
 #[derive(Debug, Drop)]
 pub struct Layers {

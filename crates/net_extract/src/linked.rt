@@ -77,7 +77,7 @@ fn link_all(parents: &mut Vec<usize>, link: &Shape, pieces: &[Piece])
     }
 }
 
-// Whether a piece stands under a root, or is not reached.
+// Whether a piece is under a root, or is not reached.
 fn is_under(parents: &[usize], link: &Shape, pieces: &[Piece], at: usize, first: usize) -> bool
     requires low { AreLow parents.now }
     requires count { length parents.now ≡ length pieces.now }
@@ -90,7 +90,7 @@ fn is_under(parents: &[usize], link: &Shape, pieces: &[Piece], at: usize, first:
     true
 }
 
-// Whether all pieces from a number on that a contact or a via reaches stand under a root.
+// Whether all pieces from a number on that a contact or a via reaches are under a root.
 fn are_under(parents: &[usize], link: &Shape, pieces: &[Piece], from: usize, first: usize) -> bool
     requires low { AreLow parents.now }
     requires count { length parents.now ≡ length pieces.now }
@@ -109,7 +109,7 @@ fn are_under(parents: &[usize], link: &Shape, pieces: &[Piece], from: usize, fir
     true
 }
 
-// Whether the pieces that a contact or a via reaches stand in one tree already.
+// Whether the pieces that a contact or a via reaches are in one tree already.
 fn are_in_one_tree(parents: &[usize], link: &Shape, pieces: &[Piece]) -> bool
     requires low { AreLow parents.now }
     requires count { length parents.now ≡ length pieces.now }
@@ -136,7 +136,7 @@ fn link_pieces(parents: &mut Vec<usize>, link: &Shape, pieces: &[Piece])
     link_all(parents, link, pieces);
 }
 
-/// Joins the trees of pieces that contacts and vias link, where pieces of one kind that touch stand in one tree.
+/// Joins the trees of pieces that contacts and vias link, where pieces of one kind that touch are in one tree.
 pub(crate) fn join_linked(parents: &mut Vec<usize>, links: &[Shape], pieces: &[Piece])
     requires touching { AreTrees (length pieces.now) (Paired Plain [] pieces.now) parents.old.items }
     requires sorted { IsSorted piece_cmp pieces.now }

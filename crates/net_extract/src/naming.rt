@@ -152,7 +152,7 @@ fn all_names(alloc: Global, held: &[NetLabel], count: u32) -> Result<Names, NoMe
 }
 
 /// The names of `count` nets by number: a net's first label, or `_` and its number where it has none. It
-/// is refused where a net holds two different labels, or else where a label stands in two nets.
+/// is refused where a net holds two different labels, or else where a label is in two nets.
 pub fn net_names(alloc: Global, held: &[NetLabel], count: u32) -> Result<Names, ExtractFault>
     ensures names { IfOk result (λ names. names ≡ names_of held.now count) }
     ensures no_short { OnOk result (short_net held.now count ≡ None) }

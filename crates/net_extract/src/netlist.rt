@@ -15,7 +15,7 @@ pub struct Drawn {
 /// The devices of a drawing.
 pub type DrawnList = List<Drawn>;
 
-/// The names of nets by number, and the devices; nets are numbered and devices stand by their first
+/// The names of nets by number, and the devices; nets are numbered and devices ordered by their first
 /// cells, the lowest row first and in it from the left.
 #[derive(Debug, PartialEq, Eq, Drop)]
 pub struct Netlist {

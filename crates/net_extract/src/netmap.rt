@@ -73,7 +73,7 @@ impl NetMap {
         &self.names.as_slice()[net as usize]
     }
 
-    /// The net that the labels of a name stand in; None where there is no such label.
+    /// The net that the labels of a name are in; None where there is no such label.
     pub fn net_named(&self, name: &[u8]) -> Option<u32>
         ensures net { result ≡ net_named self.now name.now }
         ensures within { IfSome result (λ n. n < length self.now.names) }

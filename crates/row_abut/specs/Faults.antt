@@ -1,4 +1,4 @@
--- Why cells do not stand side by side.
+-- Why cells can't be side by side.
 use Rattle.std.specs.Prelude.{ℕ, ◌≡◌, ◌+◌, ◌==◌, ◌||◌, not, nat_lt, Bool, List, [], ◌∷◌, drop, find, position}
 use Rattle.std.specs.Prelude.{Option, Some, None, option_map}
 use Rattle.std.specs.List.{zip}
@@ -19,7 +19,7 @@ pub record DifferInHeight (cells : List RowCell) (first other : ℕ) : Type 0 wh
   pub given : first ≡ first_height cells
   pub found : other_height (first_height cells) cells ≡ Some other
 
--- the N edge of one stands too high for the P edge of the other
+-- the N edge of one is too high for the P edge of the other
 abbrev pub clash : RowCell × RowCell → Bool
 clash pair =
     nat_lt pair.1.edges.p (pair.0.edges.n + CHANNEL_ROOM) || nat_lt pair.0.edges.p (pair.1.edges.n + CHANNEL_ROOM)

@@ -6,7 +6,7 @@ abbrev pub MOST_CELLS : ℕ
 MOST_CELLS = 16
 
 -- How far from 0 widths, channel edges and coordinates of cells may lie, a choice: twice the 1,000,000 that a line of
--- a drawing may stand at.
+-- a drawing may have.
 abbrev pub MOST_REACH : ℕ
 MOST_REACH = 2000000
 
@@ -16,6 +16,6 @@ abbrev pub CHANNEL_ROOM : ℕ
 CHANNEL_ROOM = 24
 
 -- The least width of a cell between two others: the well goes 10 past the sides of its cell, rule 2.3 asks 12 from
--- there to active, which stands 3 inside.
+-- there to active, which is 3 inside.
 abbrev pub LEAST_INNER : ℕ
 LEAST_INNER = 19

@@ -1,4 +1,4 @@
--- Cells side by side: where each of them stands, and what the row shows.
+-- Cells side by side: where each of them is, and what the row shows.
 use Rattle.std.specs.Prelude.{ℕ, pos, ◌+◌, ◌+ℤ◌, ◌||◌, not, Bool, List, [], ◌∷◌, ◌++◌, map, bytes_eq, codes, decimal}
 use Rattle.std.specs.List.{filter, flat_map}
 use Rattle.box_geom.specs.declared.shape.Label.{Label}
@@ -7,7 +7,7 @@ use Rattle.box_geom.specs.declared.shape.Shapes.{Shapes}
 use Rattle.cell_draw.specs.Named.{name_of}
 use Rattle.row_abut.specs.declared.cell.RowCell.{RowCell}
 
--- A cell of a row: how many cells stand before it, and how wide these are together.
+-- A cell of a row: how many cells are before it, and how wide these are together.
 pub record Standing : Type 0 where
   pub number : ℕ
   pub x : ℕ

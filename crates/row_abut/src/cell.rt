@@ -47,13 +47,13 @@ impl RowCell {
     }
 }
 
-/// Why cells do not stand side by side.
+/// Why cells can't be side by side.
 #[derive(Clone, Copy, Debug, PartialEq, Eq, Error)]
 pub enum RowFault {
     /// A cell's height, in grid units, is not that of the first cell.
     #[error("Heights")]
     Heights { first: u32, other: u32 },
-    /// Two neighbours, by their numbers: the N edge of one stands less than [`CHANNEL_ROOM`](crate::CHANNEL_ROOM) below
+    /// Two neighbours, by their numbers: the N edge of one is less than [`CHANNEL_ROOM`](crate::CHANNEL_ROOM) below
     /// the P edge of the other.
     #[error("Channel")]
     Channel { left: u32, right: u32 },

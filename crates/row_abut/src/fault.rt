@@ -1,4 +1,4 @@
-// Whether cells stand side by side.
+// Whether cells can be side by side.
 
 ghost use Rattle.std.specs.Prelude.{◌≡◌, ◌+◌, ◌<◌, IfSome, length, nat_lt};
 ghost use Rattle.row_abut.specs.Faults.{first_height, other_height, clash, first_clash};
@@ -25,7 +25,7 @@ pub fn other_height(cells: &[RowCell], first: u32) -> Option<u32>
         .map(|cell| cell.drawing.height)
 }
 
-// The N edge stands too high for the P edge.
+// The N edge is too high for the P edge.
 fn is_above(n: u32, p: u32) -> bool
     ensures { result ≡ nat_lt p (n + CHANNEL_ROOM) }
 {

@@ -26,7 +26,7 @@ stretch_of t = record { left = t.left; right = t.right; track = t.track }
 abbrev pub stretches_of : List Trunk → List Stretch
 stretches_of trunks = map stretch_of trunks
 
--- in some row a contacted place stands at the node line
+-- in some row a contacted place is at the node line
 pub record HasContact (placement : Placement) (pins : Pins) (line : ℕ) : Type 0 where
   pub node : NodePlace
   pub there : Contains placement.nodes node
@@ -51,7 +51,7 @@ pub record AreAllowed (placement : Placement) (pins : Pins) (stretches : List St
 abbrev pub AreDistances : Placement → Pins → List Stretch → Distances → Type 0
 AreDistances placement pins stretches d = (xs : List ℕ) → IsSolution d xs ↔ AreAllowed placement pins stretches xs
 
--- positions that every legal routing with so many lines allows
+-- positions that every legal routing with this number of lines allows
 abbrev pub AreAlwaysAllowed : ℕ → List ℕ → Type 0
 AreAlwaysAllowed lines xs =
     (p : Placement) (pins : Pins) (r : Routing) → IsPlacement p → IsLegal p pins r → lines ≡ 2 * length p.units + 1 →

@@ -24,7 +24,7 @@ has_trunk trunks net = list_any (λ t. t.net.0 == net.0) trunks
 abbrev pub is_contacted : Pins → List Trunk → NetNo → Bool
 is_contacted pins trunks net = is_rail pins net || has_trunk trunks net
 
--- in some row a contacted place stands at the line
+-- in some row a contacted place is at the line
 abbrev pub is_wide : Pins → List Trunk → List NodePlace → ℕ → Bool
 is_wide pins trunks nodes line = list_any (λ node. (node.line == line) && is_contacted pins trunks node.net) nodes
 
@@ -57,7 +57,7 @@ pairs_of trunks = flat_map (λ a. filter_map (pair_entry a) trunks) trunks
 abbrev pub entries_of : Placement → Pins → List Trunk → List Distance
 entries_of placement pins trunks = units_from (is_wide pins trunks placement.nodes) 0 placement.units ++ pairs_of trunks
 
--- the greatest of a start and what these entries ask of a line, where the lines before it stand
+-- the greatest of a start and what these entries ask of a line, from the positions of the lines before it
 abbrev pub further : List ℕ → ℕ → ℕ → Distance → ℕ
 further xs line best d = cond (d.to == line) (max best (get_or xs d.from 0 + d.least)) best
 

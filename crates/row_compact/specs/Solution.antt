@@ -5,7 +5,7 @@ use Rattle.row_compact.specs.Measures.{SIDE_SPACE, LINE_SPACE}
 use Rattle.row_compact.specs.declared.distance.Distance.{Distance}
 use Rattle.row_compact.specs.declared.distance.Distances.{Distances}
 
--- where a line stands
+-- the position of a line
 abbrev pub x_of : List ℕ → ℕ → ℕ
 x_of xs line = get_or xs line 0
 
@@ -15,7 +15,7 @@ pub record IsEntry (lines : ℕ) (d : Distance) : Type 0 where
   pub within : d.to < lines
   pub modest : d.least ≤ 1000
 
--- the second line stands far enough behind the first
+-- the second line is far enough after the first
 abbrev pub IsKept : List ℕ → Distance → Type 0
 IsKept xs d = x_of xs d.from + d.least ≤ x_of xs d.to
 
@@ -30,7 +30,7 @@ pub record IsLeast (d : Distances) (xs : List ℕ) : Type 0 where
   pub solution : IsSolution d xs
   pub least : (other : List ℕ) → IsSolution d other → (line : ℕ) → line < d.lines → x_of xs line ≤ x_of other line
 
--- so many lines, the first at 8 or more and each other one 8 or more behind the line before
+-- this number of lines, the first at 8 or more and each other one 8 or more after the line before
 pub record AreSpread (lines : ℕ) (xs : List ℕ) : Type 0 where
   pub count : length xs ≡ lines
   pub first : 0 < lines → SIDE_SPACE ≤ x_of xs 0

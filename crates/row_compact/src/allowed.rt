@@ -35,7 +35,7 @@ fn is_contacted(pins: &Pins, trunks: &[Trunk], net: NetNo) -> bool
     is_rail(pins, net) || has_trunk(trunks, net)
 }
 
-// Whether in some row a contacted place stands at the line.
+// Whether in some row a contacted place is at the line.
 fn is_wide(placement: &Placement, pins: &Pins, trunks: &[Trunk], line: u32) -> bool
     ensures { result ≡ is_wide pins.now trunks.now placement.now.nodes line }
 {
@@ -89,7 +89,7 @@ fn add_units(
     Ok(())
 }
 
-// The distances from one trunk to those of its track that stand to the right.
+// The distances from one trunk to those of its track to its right.
 fn add_pairs(list: &mut DistanceList, left: &Trunk, trunks: &[Trunk]) -> Result<(), NoMemory>
     ensures { OnOk result (list.new ≡ list.old ++ filter_map (pair_entry left.now) trunks.now) }
 {

@@ -6,7 +6,7 @@ use cell_num::List;
 /// The most lines of a row: two for each unit, and the last one.
 pub const MOST_LINES: u32 = 127;
 
-/// The line `to` stands at least `least` grid units after the line `from`.
+/// The line `to` is at least `least` grid units to the right of the line `from`.
 #[derive(Clone, Copy, Debug, PartialEq, Eq)]
 pub struct Distance {
     pub from: u32,
@@ -17,7 +17,7 @@ pub struct Distance {
 /// Distances in any order.
 pub type DistanceList = List<Distance>;
 
-/// What `lines` lines keep between them. Line 0 besides stands at 8 grid units or more.
+/// The distances that `lines` lines keep between them. Besides, line 0 is at 8 grid units or more.
 #[derive(Debug, PartialEq, Drop)]
 pub struct Distances {
     pub lines: u32,

@@ -1,4 +1,4 @@
-// Where the lines of a routed row stand.
+// The positions of the lines of a routed row.
 #![tactic(auto)]
 
 pub mod allowed;

@@ -25,7 +25,7 @@ pub fn even_lines(alloc: Global, lines: u32) -> Result<LineXs, NoMemory>
     Ok(xs)
 }
 
-// The least position of a line, where the lines before it stand.
+// The least position of a line, from the positions of the lines before it.
 fn least_x(list: &[Distance], xs: &[u32], line: u32) -> u32
     requires modest { All (λ d. d.least ≤ 1000) list.now }
     requires low { (at : ℕ) → x_at xs.now at ≤ 126008 }

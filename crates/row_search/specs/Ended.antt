@@ -52,7 +52,7 @@ IsFirstRule value k s bound by.P = bound ≤ value P s k
 IsFirstRule value k s bound by.N = (value P s k < bound) × (bound ≤ value N s k)
 IsFirstRule value k s bound by.Branch = (value P s k < bound) × (value N s k < bound)
 
--- a lemma stands by the first rule that can serve
+-- a lemma has the first rule that can serve
 abbrev pub IsLean : (Row → State → Kinds → ℕ) → Kinds → Lemma → Type 0
 IsLean value k lemma = IsFirstRule value k lemma.state lemma.bound lemma.rule
 
@@ -77,7 +77,7 @@ pub record IsSolved (value : Row → State → Kinds → ℕ) (k : Kinds) (f : F
   pub searched : IsSearchLog value k f log
 
 -- The evidence of a search whose budget is spent: the log lists no row, and its lemmas are as many as the budget has
--- nodes but for those of one row. The best bound of the start state is proved: no arrangement has fewer gaps. A budget
+-- nodes except those of one row. The best bound of the start state is proved: no arrangement has fewer gaps. A budget
 -- that is enough is never spent.
 pub record IsSpent (value : Row → State → Kinds → ℕ) (k : Kinds) (f : Fingers) (budget : ℕ) (log : Log)
     (proved : ℕ) : Type 0 where

@@ -1,4 +1,4 @@
--- What the limits come to, for the kinds of the fingers.
+-- The results of the limits, for the kinds of the fingers.
 use Rattle.std.specs.Prelude.{ℕ, ◌≡◌, ◌≤◌, ◌+◌, List, All, length}
 use Rattle.cell_num.specs.declared.finger.Row.{Row}
 use Rattle.row_state.specs.declared.kind.Kinds.{Kinds}
@@ -29,13 +29,13 @@ found_of k p gaps steps = record {
   nodes = p.nodes;
 }
 
--- the lemmas prove that each row has so many gaps, and are of states that limits up to so many reach
+-- the lemmas prove that each row has that many gaps, and are of states that limits up to that many reach
 pub record ProveGaps (value : Row → State → Kinds → ℕ) (k : Kinds) (gaps : ℕ) (lemmas : List Lemma) : Type 0 where
   pub kept : AreKept value k lemmas
   pub within : All (IsWithin k gaps) lemmas
   pub low : gaps ≤ best_of (start_of k) lemmas
 
--- at the limit of so many gaps the row of the steps was found; a node was taken for each lemma, for each
+-- at the limit of that many gaps the row of the steps was found; a node was taken for each lemma, for each
 -- column and at the end
 pub record IsFoundAt (value : Row → State → Kinds → ℕ) (k : Kinds) (budget : ℕ) (gaps : ℕ) (steps : List Step)
     (p : SoFar) : Type 0 where

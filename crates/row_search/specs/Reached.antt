@@ -26,7 +26,7 @@ pub record IsStateOf (k : Kinds) (prefix : List Column) (s : State) : Type 0 whe
   pub p_end : s.p_end ≡ end_behind P prefix
   pub n_end : s.n_end ≡ end_behind N prefix
 
--- some prefix of an arrangement has the state and so many gaps
+-- some prefix of an arrangement has the state and that many gaps
 pub record IsReached (k : Kinds) (s : State) (gaps : ℕ) : Type 0 where
   pub prefix : List Column
   pub rest : List Column

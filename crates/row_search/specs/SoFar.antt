@@ -1,4 +1,4 @@
--- What a search has come to.
+-- What a search has found up to now.
 use Rattle.std.specs.Prelude.{ℕ, ◌≡◌, ◌+◌, List}
 use Rattle.row_state.specs.declared.kind.Kinds.{Kinds}
 use Rattle.bound_log.specs.declared.log.Lemma.{Lemma}

@@ -18,7 +18,7 @@ use Rattle.row_search.specs.Reached.{IsReached, IsWithin}
 use Rattle.row_search.specs.SoFar.{KnowsAll, SoFar}
 use Rattle.row_search.specs.Steps.{IsStep, row_of}
 
--- the first of the completions of a state that have at most so many further gaps
+-- the first of the completions of a state that have at most that many further gaps
 pub record IsFirstWithin (k : Kinds) (s : State) (allowed : ℕ) (row : List Column) : Type 0 where
   pub completes : Completes k s row
   pub within : further_gaps s row ≤ allowed
@@ -30,7 +30,7 @@ abbrev pub RowReaches : (Row → State → Kinds → ℕ) → Kinds → State �
 RowReaches value k s bound by.Branch = ⊥
 RowReaches value k s bound rule = IsFirstRule value k s bound rule
 
--- the state is one that the limit reaches, with so many gaps still allowed
+-- the state is one that the limit reaches, with that many gaps still allowed
 pub record IsAllowed (k : Kinds) (limit : ℕ) (s : State) (allowed : ℕ) : Type 0 where
   pub gaps : ℕ
   pub reached : IsReached k s gaps
@@ -49,7 +49,7 @@ pub record IsGrown (k : Kinds) (n : ℕ) (before after : List Lemma) : Type 0 wh
   pub is : after ≡ before ++ more
   pub below : All (λ lemma. columns_left k lemma.state < n) more
 
--- a search went on from `before` to `after`, with so many gaps allowed at a state: it kept the budget, it
+-- a search went on from `before` to `after`, with that many gaps allowed at a state: it kept the budget, it
 -- added only lemmas of states with fewer than n columns left, which each limit reaches that reaches the
 -- state, and it took at least a node for each of them
 pub record IsFurther (value : Row → State → Kinds → ℕ) (k : Kinds) (budget n : ℕ) (s : State) (allowed : ℕ)

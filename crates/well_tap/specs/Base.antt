@@ -13,7 +13,7 @@ use Rattle.cell_draw.specs.Framed.{BeginsWith}
 use Rattle.cell_draw.specs.Shapes.{cell_height, frame_shapes}
 use Rattle.well_tap.specs.Measures.{TAP_SPACE, TAP_CLEAR}
 
--- where the first and the last line stand: taps stand at these two
+-- the positions of the first and the last line: taps are at these two
 abbrev pub first_line : List ℕ → ℕ
 first_line xs = x_of xs 0
 
@@ -45,7 +45,7 @@ pub record IsBetweenTaps (f : Frame) (s : Shape) : Type 0 where
   pub no_n_select : s.layer ≢ NSelect
   pub clear : s.layer ≢ Metal1 → IsClearOfTaps f s.rect
 
--- A drawing on these lines in a frame. Where its metal1 and its labels stand plays no part.
+-- A drawing on these lines in a frame. The places of its metal1 and its labels play no part.
 pub record IsBase (xs : List ℕ) (d : Drawing) : Type 0 where
   pub frame : Frame
   pub stacked : IsStacked frame

@@ -19,8 +19,8 @@ WELL_PAST_END = 4
 abbrev pub TAP_SPACE : ℕ
 TAP_SPACE = 16
 
--- From an end of the cell to all that is no rail's metal: a tap and what rule 2.2 asks behind it go to 19; a whole
--- lambda is the choice, up to which poly goes past fingers.
+-- From an end of the cell to all that is no rail's metal: a tap and what rule 2.2 asks beyond it end at 19. A whole
+-- lambda is the choice: poly past fingers ends there.
 abbrev pub TAP_CLEAR : ℕ
 TAP_CLEAR = 20
 

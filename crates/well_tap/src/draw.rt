@@ -19,11 +19,11 @@ use cell_num::NoMemory;
 use row_compact::{LineXs, x_of};
 use std::alloc::Global;
 
-// No line of a drawing stands further to the right: the well goes 18 past the last one, and no rectangle goes past
+// No line of a drawing is further to the right: the well ends 18 past the last one, and no rectangle goes past
 // 1,000,000,000.
 const MOST_LINE: u32 = 999_999_982;
 
-// The well goes up to this height.
+// The height at which the well ends.
 fn raised(shape: &Shape, top: u32) -> Shape
     requires below { CanRise top shape.now }
     requires top { top ≤ MOST_TAPPED_HEIGHT + WELL_PAST_END }
@@ -73,7 +73,7 @@ fn add_taps(out: &mut ShapeList, height: u32, x: u32) -> Result<(), NoMemory>
     add_tap(out, Layer::NSelect, x, height - TAP_RISE)
 }
 
-// Where the last line stands.
+// The position of the last line.
 fn last_x(xs: &[u32]) -> u32
     ensures { result ≡ last_line xs.now }
 {

@@ -26,7 +26,7 @@ use crate::{
     HALF_SELECT, MOST_TAPPED_HEIGHT, TAP_CLEAR, TAP_RISE, TAP_SHAPES, TAP_SPACE, WELL_PAST_END,
 };
 
-/// Taps may be added to a drawing that stands in its frame, where its lines leave room for two of them.
+/// Taps may be added to a drawing in its frame, where its lines leave room for two of them.
 pub fn framed_bases()
     ensures { (f : Frame) (xs : List ℕ) (d : Drawing) → IsFramed f xs d
         → first_line xs + measures.TAP_SPACE ≤ last_line xs → IsBase xs d }
