@@ -1,4 +1,4 @@
-* A tri-state inverter, each half of two fingers. Trunks of its first row are above each other in a ring: `--low` makes it.
+* A tri-state inverter, each half of two fingers. Trunks of its first row form a cycle: `--low` makes it.
 .SUBCKT tristate a en y vdd gnd
 *.PININFO a:I en:I y:O vdd:B gnd:B
 MPE  enb en  vdd vdd p W=3u   L=0.6u

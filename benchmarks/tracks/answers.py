@@ -192,7 +192,7 @@ def within(made, budget, words):
     if said[0] == "status 5 cycle":
         same("a row that is wired", made.found.row, None)
         unwired(made, tech, words)
-        return "budget enough for a ring in each row"
+        return "budget enough for a cycle in each row"
     made.tracks_proved(tech, files, proved)
     made.evidence(tech, files, words, made.first)
     most = len(made.cell.nets) if made.found.row is None else made.found.tracks
@@ -202,7 +202,7 @@ def within(made, budget, words):
     same("the files", files, old)
     if plain[0] == "status 5 cycle":
         same("the report", said, ["status 6 unfinished", *fewest, *plain[1:]])
-        return "budget spent, first row with a ring"
+        return "budget spent, first row with a cycle"
     at = next(at for at, line in enumerate(plain) if line.startswith("size"))
     same("the report", said, plain[:at] + fewest + plain[at:])
     same("the row of make", [line for line in plain if line.startswith("column ")], row_lines(made.cell, made.first))

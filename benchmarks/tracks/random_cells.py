@@ -44,7 +44,7 @@ def of_nets(draw, most):
 
 
 def of_pairs(draw, most):
-    """A P and an N transistor on each gate net, between few nets and hardly a rail: many rows have a ring."""
+    """A P and an N transistor on each gate net, between few nets and hardly a rail: many rows have a cycle."""
     ends = ["m", "k", "y", "t"][:draw.randint(2, 4)]
     lines = []
     for on in INPUTS[:draw.randint(2, min(4, most // 2))]:

@@ -1,4 +1,4 @@
-"""Tracks along the rows of a cell, and lemmas on them, as crates/track_lemmas and crates/track_log say it. It is plain
+"""Tracks along the rows of a cell, and lemmas on them, as crates/track_ways and crates/track_log say it. It is plain
 and slow, and shares no code with the program.
 
 A row is built column by column. Its state after some columns is how many fingers of each kind are left, and the net
