@@ -12,7 +12,7 @@ import sys
 from claims import TOP, text_of
 
 PAGE = os.path.join("docs", "API.md")
-LEFT_OUT = "Bench, tests and what benchmarks/ needs"
+LEFT_OUT = "Tests, and what benchmarks/ needs"
 HEAD = """# The public calls
 
 This page is for users of the crates as libraries. A crate's items are at its root, as in `use

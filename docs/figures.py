@@ -346,7 +346,7 @@ def draw_ring():
         pins = next(line for line in file if line.startswith(".SUBCKT")).split()[2:]
     states, lemmas = walk(cell.row), lemmas_of(cell, pins)
     known = {(tuple(state.left), state.ends): (number, bound) for number, bound, state in lemmas}
-    pic = Picture(900, 600, "The log of the ring as a tree of states")
+    pic = Picture(900, 600, "The log of the cell ring as a tree of states")
     fan = [branch(states[1].state, "b", p, n) for p in (("x", "y"), ("y", "x")) for n in (("x", "y"), ("y", "x"))]
     assert fan[3] == states[2]
     spots = [(450, 12), (450, 130)] + [(789, y) for y in (260, 366, 472)]
@@ -430,12 +430,12 @@ def draw_open(pic, x, y, nets, title, state, lemma):
 
 
 def draw_ends():
-    """What the choices of the ring leave open, gate by gate, with the ends that are certain then."""
+    """What the choices of the cell ring leave open, gate by gate, with the ends that are certain then."""
     fingers = read_fingers(os.path.join(FIGURES, "ring.sp"), "ring")
     order, nets = list(columns_on(fingers)), fingers.nets
     levels = Levels(fingers, order)
     lines = {(lemma.done, lemma.state): (5 + at, lemma.bound) for at, lemma in enumerate(levels.lemmas())}
-    pic = Picture(900, 690, "What the choices of the ring leave open, and the ends that are certain")
+    pic = Picture(900, 690, "What the choices of the cell ring leave open, and the ends that are certain")
     here = {START: 450}
     for done in range(len(order) + 1):
         arrows = {}

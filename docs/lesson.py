@@ -80,9 +80,9 @@ def draw_ends(pic, x, high, low):
         pic.rect(x - 4, y - 4, x + 4, y + 4, COLOURS[VIA])
 
 
-def draw_ring():
-    """The ring of the tri-state inverter, and the dogleg that undoes it."""
-    pic = Picture(860, 350, "A ring of two nets on whole tracks, and the dogleg that undoes it")
+def draw_cycle():
+    """The cycle of the tri-state inverter, and the dogleg that undoes it."""
+    pic = Picture(860, 350, "A cycle of two nets on whole tracks, and the dogleg that undoes it")
     one, two = COLOURS[METAL1], TEAL
     pic.text(200, 20, "on whole tracks: no place for y at line 14", bold=True)
     pic.text(640, 20, "y changes its track at line 10", bold=True)
@@ -105,7 +105,7 @@ def draw_ring():
         pic.rect(636, y - 4, 644, y + 4, COLOURS[VIA])
     pic.text(760, 110, "higher track", 12, "start")
     pic.text(760, 230, "lower track", 12, "start")
-    pic.save("lesson-ring.svg")
+    pic.save("lesson-cycle.svg")
 
 
 if __name__ == "__main__":
@@ -114,4 +114,4 @@ if __name__ == "__main__":
     hand = by_hand()
     draw_graphs(hand)
     draw_sticks(hand)
-    draw_ring()
+    draw_cycle()

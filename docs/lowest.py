@@ -121,9 +121,9 @@ def draw_crossings():
 
 
 WAYS = (                                                   # first columns of the OAI21, and the lines that refute them
-    ("a: P vdd→p1, N n1→y", "n1 has track 0 or 1", (5, 6), "b"),
-    ("c: P y→vdd, N gnd→n1", "y has track 0 or 1", (7, 8), "a"),
-    ("c: P vdd→y, N gnd→n1", "no net is open", (9,), "b"),
+    ("a: P vdd→p1, N n1→y", "n1 is open, on any track", 5, "b"),
+    ("c: P y→vdd, N gnd→n1", "y is open, on any track", 6, "a"),
+    ("c: P vdd→y, N gnd→n1", "no net is open", 7, "b"),
 )
 
 
@@ -137,16 +137,15 @@ def draw_refuted():
     """The certificate of the OAI21 as a tree: which first columns go on, and why each stops."""
     with open(os.path.join(FIGURES, "oai21.ctrack"), encoding="ascii") as file:
         lines = file.read().split("\n")
-    assert [line.split()[0] for line in lines[4:10]] == ["lemma"] * 6, "the certificate has another number of lemmas"
+    assert [line.split()[0] for line in lines[4:8]] == ["lemma"] * 4, "the certificate has another number of lemmas"
     pic = Picture(860, 290, "The certificate of tracks of the OAI21 as a tree")
-    draw_box(pic, 430, 10, ["line 10: all rows", "gates left: a b c, no gap, 2 tracks", "9 first columns end at once"],
+    draw_box(pic, 430, 10, ["line 8: all rows", "gates left: a b c, no gap, 2 tracks", "9 first columns end at once"],
              TEAL, "#e0f2f1")
-    for at, (move, tracks, numbers, gate) in enumerate(WAYS):
+    for at, (move, tracks, number, gate) in enumerate(WAYS):
         x = 150 + 280 * at
         pic.line(430, 84, x, 126, ORANGE)
         pic.head(x, 128, 0, 1, ORANGE, 8)
-        said = "line " + str(numbers[0]) if len(numbers) == 1 else f"lines {numbers[0]} and {numbers[1]}"
-        draw_box(pic, x, 130, [f"{said}: {move}", tracks, f"{gate} has to be next"], ORANGE, "#fff3e0")
+        draw_box(pic, x, 130, [f"line {number}: {move}", tracks, f"{gate} has to be next"], ORANGE, "#fff3e0")
         pic.text(x, 226, f"gate line of {gate}:", 13)
         pic.text(x, 248, f"{gate}, n1 and y: 3 trunks", 13, colour=ORANGE, bold=True)
         pic.text(x, 270, "on 2 tracks: refuted", 13)
