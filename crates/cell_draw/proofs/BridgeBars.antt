@@ -6,7 +6,7 @@ use Rattle.cell_num.specs.declared.net.NetNo.{NetNo}
 use Rattle.cell_num.specs.declared.net.Pins.{Pins}
 use Rattle.cell_num.specs.declared.finger.Row.{Row}
 use Rattle.cell_num.specs.declared.finger.Row.TheVariants.{P, N}
-use Rattle.cell_num.specs.Pins.{IsRail}
+use Rattle.cell_num.specs.Pins.{IsRail, is_rail}
 use Rattle.cell_num.proofs.Lists.{contains_filter_map}
 use Rattle.cell_num.proofs.In.{Image, in_map, contains_map}
 use Rattle.row_place.specs.declared.placement.NodePlace.{NodePlace}
@@ -14,7 +14,6 @@ use Rattle.row_place.specs.declared.placement.Placement.{Placement}
 use Rattle.channel_route.specs.declared.routing.Trunk.{Trunk}
 use Rattle.channel_route.specs.declared.routing.Routing.{Routing}
 use Rattle.channel_route.specs.Wiring.{HoldsLine, AreEnds, AreInOrder, IsWiring}
-use Rattle.row_compact.specs.Entries.{is_rail}
 use Rattle.row_compact.specs.Solution.{x_of}
 use Rattle.row_compact.specs.Allowed.{stretch_of}
 use Rattle.row_compact.proofs.Decide.{rail_decides}

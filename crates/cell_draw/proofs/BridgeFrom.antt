@@ -32,7 +32,7 @@ use Rattle.cell_draw.specs.declared.layout.Gate.{Gate}
 use Rattle.cell_draw.specs.Frame.{track_y, height_of}
 use Rattle.cell_draw.specs.Laid.{IsFrame}
 use Rattle.cell_draw.specs.Sound.{IsSoundRow}
-use Rattle.row_compact.specs.Entries.{is_rail}
+use Rattle.cell_num.specs.Pins.{is_rail}
 use Rattle.cell_draw.specs.Layouts.{strip_of, strips_at, trunk_of, holds, far, reach_of, gate_reach, contact_with, contact_of, finger_width, gate_with, gate_at, gates_on, width_of}
 use Rattle.cell_draw.proofs.Found.{found_all, found_is}
 use Rattle.cell_draw.proofs.Wirings.{IsFar, is_far, holds_it}

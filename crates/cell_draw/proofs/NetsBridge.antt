@@ -5,7 +5,7 @@ use Rattle.cell_num.specs.declared.net.NetNo.{NetNo}
 use Rattle.cell_num.specs.declared.net.Pins.{Pins}
 use Rattle.cell_num.specs.declared.finger.Row.{Row}
 use Rattle.cell_num.specs.declared.finger.Finger.{Finger}
-use Rattle.cell_num.specs.Pins.{IsRail}
+use Rattle.cell_num.specs.Pins.{IsRail, is_rail}
 use Rattle.cell_num.proofs.Lists.{some_same, contains_get, contains_filter_map}
 use Rattle.row_model.specs.declared.column.Placed.{Placed}
 use Rattle.row_model.specs.declared.column.Column.{Column}
@@ -20,7 +20,6 @@ use Rattle.row_place.specs.Units.{seats_of, unit_of}
 use Rattle.row_place.proofs.Placed.{only_placement}
 use Rattle.channel_route.specs.declared.routing.Routing.{Routing}
 use Rattle.channel_route.specs.Wiring.{IsWiring}
-use Rattle.row_compact.specs.Entries.{is_rail}
 use Rattle.row_compact.specs.Solution.{x_of}
 use Rattle.row_compact.proofs.Decide.{rail_decides}
 use Rattle.cell_draw.specs.declared.layout.Frame.{Frame}

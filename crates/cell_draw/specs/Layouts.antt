@@ -17,7 +17,7 @@ use Rattle.row_place.specs.Steps.{gate_of}
 use Rattle.channel_route.specs.declared.routing.Trunk.{Trunk}
 use Rattle.channel_route.specs.declared.routing.Routing.{Routing}
 use Rattle.channel_route.specs.Routing.{holds_line}
-use Rattle.row_compact.specs.Entries.{is_rail}
+use Rattle.cell_num.specs.Pins.{is_rail}
 use Rattle.row_compact.specs.Solution.{x_of}
 use Rattle.row_compact.specs.Measures.{SIDE_SPACE}
 use Rattle.cell_draw.specs.Measures.{LABEL_ON_FINGER, LABEL_ON_GATE, LABEL_ON_GND, LABEL_ON_VDD}

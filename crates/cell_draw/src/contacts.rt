@@ -4,7 +4,6 @@ ghost use Rattle.std.specs.Prelude.{◌≡◌, ◌≤◌, ◌<◌, ◌==◌, All
 ghost use Rattle.std.specs.Option.{option_copied};
 ghost use Rattle.channel_route.specs.Routing.{holds_line};
 ghost use Rattle.cell_draw.specs.Layouts.{trunk_of, holds, farther, far, reach_of, contact_of};
-ghost use Rattle.row_compact.specs.Entries.{is_rail};
 ghost use Rattle.cell_draw.specs.Small.{IsSmallFrame};
 
 use crate::frame::track_y;
@@ -14,12 +13,6 @@ use channel_route::Trunk;
 use row_compact::x_of;
 use row_place::NodePlace;
 use std::alloc::Global;
-
-fn is_rail(pins: &Pins, net: NetNo) -> bool
-    ensures { result ≡ is_rail pins.now net }
-{
-    pins.is_rail(net)
-}
 
 /// The first trunk of a net.
 pub fn trunk_of(trunks: &[Trunk], net: NetNo) -> Option<&Trunk>
@@ -98,7 +91,7 @@ fn contact_of(
         net: node.net,
         reach: None,
     };
-    if is_rail(pins, node.net) {
+    if pins.is_rail(node.net) {
         return Some(contact);
     }
     match reach_of(frame, trunks, node) {

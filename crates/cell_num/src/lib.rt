@@ -4,6 +4,7 @@
 mod columns;
 mod finger;
 mod fingers;
+mod halt;
 pub mod laws;
 mod length;
 mod limits;
@@ -16,6 +17,7 @@ mod room;
 pub use columns::columns_of;
 pub use finger::{Finger, Fingers, Row};
 pub use fingers::are_fingers;
+pub use halt::Halt;
 pub use laws::limit_numbers;
 pub use length::{Fixed, MOST_UNITS, snap};
 pub use limits::{MOST_BYTES, MOST_COLUMNS, MOST_FINGERS, MOST_NETS};

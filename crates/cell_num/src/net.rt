@@ -1,5 +1,5 @@
-ghost use Rattle.std.specs.Prelude.{◌↔◌, IsTrue};
-ghost use Rattle.cell_num.specs.Pins.{IsRail};
+ghost use Rattle.std.specs.Prelude.{◌≡◌, ◌↔◌, IsTrue};
+ghost use Rattle.cell_num.specs.Pins.{IsRail, is_rail};
 
 /// A net, by its number.
 #[derive(Clone, Copy, Debug, PartialEq, Eq, PartialOrd, Ord)]
@@ -16,7 +16,8 @@ pub struct Pins {
 impl Pins {
     /// Whether the net is one of the two rails.
     pub fn is_rail(&self, net: NetNo) -> bool
-        ensures { IsTrue result ↔ IsRail self.now net }
+        ensures rail { IsTrue result ↔ IsRail self.now net }
+        ensures test { result ≡ is_rail self.now net }
     {
         net == self.vdd || net == self.gnd
     }

@@ -1,11 +1,12 @@
 ghost use Rattle.std.specs.Prelude.{ℕ, ◌≡◌, ◌≤◌, ◌<◌, ◌+◌, ◌++◌, ◌∷◌, [], true, false, IfOk, IfErr, OnOk, List};
 ghost use Rattle.channel_route.specs.declared.routing.Trunk.{Trunk as ATrunk};
-ghost use Rattle.first_route.specs.declared.descent.Halt.TheVariants.{Spent};
+ghost use Rattle.cell_num.specs.declared.halt.Halt.TheVariants.{Spent};
 ghost use Rattle.first_route.specs.Tries.{tries};
 ghost use Rattle.first_route.specs.Ways.{AreFirst, Fails};
 
 use crate::fit::{fits, on_track};
 use crate::room::is_open;
+use cell_num::Halt;
 use channel_route::{Constraint, Trunk};
 
 /// What the trunks are put on: that many tracks, with constraints between them.
@@ -13,13 +14,6 @@ use channel_route::{Constraint, Trunk};
 pub(crate) struct Channel<'a> {
     pub constraints: &'a [Constraint],
     pub tracks: u32,
-}
-
-/// Why a descent ends without an answer.
-#[derive(Debug, Drop)]
-pub(crate) enum Halt {
-    Spent,
-    NoMemory,
 }
 
 // Puts a trunk on its track, if the budget has a try left.

@@ -8,8 +8,8 @@ ghost use Rattle.first_route.specs.First.{HasNoRouting, IsFirstRouting};
 ghost use Rattle.first_route.specs.Tries.{AreMore, WereMade};
 ghost use Rattle.first_route.specs.Ways.{low_wire};
 
-use crate::descent::{Channel, Halt, descend};
-use cell_num::{List, Pins};
+use crate::descent::{Channel, descend};
+use cell_num::{Halt, List, Pins};
 use channel_route::{PlacedWire, Routing, Trunk, Wire, constraints, trunks_of, wires};
 use row_place::Placement;
 use std::alloc::{AllocError, Global};

@@ -1,11 +1,11 @@
 -- The tests by which the code tells contacted places decide the definitions.
-use Rattle.std.proofs.Common.{ℕ, ◌≡◌, ◌↔◌, ◌==◌, ◌&&◌, IsTrue, Bool, true, false, inl, inr, refl, sym}
+use Rattle.std.proofs.Common.{ℕ, ◌≡◌, ◌==◌, ◌&&◌, true}
 use Rattle.std.specs.Bool.{Decides}
-use Rattle.std.proofs.lemmas.Bool.{cases_Bool, and_parts, and_from, eqb-true, eq-eqb}
+use Rattle.std.proofs.lemmas.Bool.{and_parts, and_from, eqb-true, eq-eqb}
 use Rattle.std.proofs.lemmas.Bool.Decides.{Decides-or}
 use Rattle.cell_num.specs.declared.net.NetNo.{NetNo}
 use Rattle.cell_num.specs.declared.net.Pins.{Pins}
-use Rattle.cell_num.specs.Pins.{IsRail}
+use Rattle.cell_num.specs.Pins.{IsRail, is_rail}
 use Rattle.row_model.proofs.Decide.{net_decides}
 use Rattle.row_place.specs.declared.placement.NodePlace.{NodePlace}
 use Rattle.row_place.specs.declared.placement.Placement.{Placement}
@@ -14,19 +14,11 @@ use Rattle.channel_route.specs.declared.routing.Trunk.{Trunk}
 use Rattle.channel_route.specs.declared.routing.Routing.{Routing}
 use Rattle.channel_route.specs.Wiring.{IsWiring}
 use Rattle.row_compact.specs.Allowed.{HasContact}
-use Rattle.row_compact.specs.Entries.{is_rail, has_trunk, is_contacted, is_wide}
+use Rattle.row_compact.specs.Entries.{has_trunk, is_contacted, is_wide}
 use Rattle.cell_num.proofs.Pairs.{Some', some_from_any, any_at, test_finds, test_there}
 
 pub rail_decides : (pins : Pins) (net : NetNo) → Decides (is_rail pins net) (IsRail pins net)
 rail_decides pins net = Decides-or (net.0 == pins.vdd.0) (net.0 == pins.gnd.0) (net_decides net pins.vdd) (net_decides net pins.gnd)
-
--- what tells a rail is that test
-pub rail_test : (pins : Pins) (net : NetNo) (told : Bool) → (IsTrue told ↔ IsRail pins net) → told ≡ is_rail pins net
-rail_test pins net true h = sym ((rail_decides pins net).1 (h.0 refl))
-rail_test pins net false h = elim (cases_Bool (is_rail pins net)) [
-  | inl e ↦ absurd (let wrong : ◌≡◌ {A = Bool} false true = h.1 ((rail_decides pins net).0 e) in cc)
-  | inr e ↦ sym e
-]
 
 pub trunk_decides : (p : Placement) (pins : Pins) (r : Routing) → IsWiring p pins r → (net : NetNo) → Decides (has_trunk r.trunks net) (HasTrunk p pins net)
 trunk_decides p pins r wiring net = (there, back)

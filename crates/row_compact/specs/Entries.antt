@@ -4,6 +4,7 @@ use Rattle.std.specs.Prelude.{false, cond, List, [], ◌∷◌, ◌++◌, Option
 use Rattle.std.specs.List.{flat_map, list_any}
 use Rattle.cell_num.specs.declared.net.NetNo.{NetNo}
 use Rattle.cell_num.specs.declared.net.Pins.{Pins}
+use Rattle.cell_num.specs.Pins.{is_rail}
 use Rattle.row_place.specs.declared.placement.NodePlace.{NodePlace}
 use Rattle.row_place.specs.declared.placement.Placement.{Placement}
 use Rattle.row_place.specs.declared.placement.UnitKind.{UnitKind}
@@ -14,9 +15,6 @@ use Rattle.row_compact.specs.declared.distance.Distance.{Distance}
 
 abbrev pub entry : ℕ → ℕ → ℕ → Distance
 entry from to least = record { from = from; to = to; least = least }
-
-abbrev pub is_rail : Pins → NetNo → Bool
-is_rail pins net = (net.0 == pins.vdd.0) || (net.0 == pins.gnd.0)
 
 abbrev pub has_trunk : List Trunk → NetNo → Bool
 has_trunk trunks net = list_any (λ t. t.net.0 == net.0) trunks

@@ -6,7 +6,7 @@ ghost use Rattle.channel_route.specs.Routing.{IsLegal};
 ghost use Rattle.channel_route.specs.Wiring.{AreWiring};
 ghost use Rattle.row_compact.specs.Solution.{IsEntry};
 ghost use Rattle.row_compact.specs.Allowed.{AreDistances, stretches_of};
-ghost use Rattle.row_compact.specs.Entries.{is_rail, has_trunk, is_contacted, is_wide, least_in};
+ghost use Rattle.row_compact.specs.Entries.{has_trunk, is_contacted, is_wide, least_in};
 ghost use Rattle.row_compact.specs.Entries.{two_entries, units_from, pair_entry, pairs_of, entries_of};
 
 use crate::{
@@ -17,12 +17,6 @@ use channel_route::{Routing, Trunk};
 use row_place::{Placement, UnitKind};
 use std::alloc::Global;
 
-fn is_rail(pins: &Pins, net: NetNo) -> bool
-    ensures { result ≡ is_rail pins.now net }
-{
-    pins.is_rail(net)
-}
-
 fn has_trunk(trunks: &[Trunk], net: NetNo) -> bool
     ensures { result ≡ has_trunk trunks.now net }
 {
@@ -32,7 +26,7 @@ fn has_trunk(trunks: &[Trunk], net: NetNo) -> bool
 fn is_contacted(pins: &Pins, trunks: &[Trunk], net: NetNo) -> bool
     ensures { result ≡ is_contacted pins.now trunks.now net }
 {
-    is_rail(pins, net) || has_trunk(trunks, net)
+    pins.is_rail(net) || has_trunk(trunks, net)
 }
 
 // Whether in some row a contacted place is at the line.

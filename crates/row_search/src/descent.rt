@@ -4,14 +4,14 @@ ghost use Rattle.row_state.specs.Emptied.{AreEmpty};
 ghost use Rattle.row_state.specs.Start.{columns_left};
 ghost use Rattle.lemma_check.specs.Reaches.{best_of};
 ghost use Rattle.lemma_check.specs.Noted.{AreNoted};
-ghost use Rattle.row_search.specs.declared.descent.Halt.TheVariants.{Spent, NoMemory};
+ghost use Rattle.cell_num.specs.declared.halt.Halt.TheVariants.{Spent};
 ghost use Rattle.row_search.specs.SoFar.{KnowsAll};
 ghost use Rattle.row_search.specs.Visit.{AreKept, HasFailed, HasFound, HasSpent, IsFurther};
 
 use crate::progress::Progress;
 use crate::row_rule::row_rule;
 use bound_log::Rule;
-use cell_num::{MOST_COLUMNS, NoMemory};
+use cell_num::{Halt, MOST_COLUMNS};
 use lemma_check::RowTrails;
 use row_state::{Candidate, EmptyPlaces, Kinds, Numbered, RowBound, Steps, has_fingers};
 use std::alloc::Global;
@@ -25,24 +25,6 @@ pub(crate) struct Task<'a, B> {
     pub candidates: &'a [Candidate],
     pub bound: &'a B,
     pub budget: u64,
-}
-
-/// Why a visit ends without an answer.
-#[derive(Debug, Drop)]
-pub(crate) enum Halt {
-    Spent,
-    NoMemory,
-}
-
-impl From<NoMemory> for Halt {
-    ghost use Rattle.std.specs.Prelude.{◌≡◌};
-    ghost use Rattle.row_search.specs.declared.descent.Halt.TheVariants.{NoMemory};
-
-    ghost from_gives = { λ _ e. e ≡ NoMemory };
-
-    fn from(_: NoMemory) -> Halt {
-        Halt::NoMemory
-    }
 }
 
 /// The first completion of the state with as few gaps as are allowed, its last step first, or none;

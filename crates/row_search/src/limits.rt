@@ -9,12 +9,12 @@ ghost use Rattle.row_search.specs.Ended.{IfOpen, IsSolved, IsSpent};
 ghost use Rattle.row_search.specs.First.{IsFirstLeast};
 ghost use Rattle.row_search.specs.Limits.{IsFound, StopsWell, found_of};
 
-use crate::descent::{Halt, Task, visit};
+use crate::descent::{Task, visit};
 use crate::listed::{arrangement, log_steps};
 use crate::progress::Progress;
 use crate::{FoundKept, StopKept};
 use bound_log::Best;
-use cell_num::{Fingers, NoMemory};
+use cell_num::{Fingers, Halt, NoMemory};
 use lemma_check::RowTrails;
 use row_state::{EmptyPlaces, Kinds, Numbered, RowBound, Step, candidates, columns, kinds, start};
 use std::alloc::Global;

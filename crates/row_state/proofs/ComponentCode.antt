@@ -16,7 +16,8 @@ use Rattle.row_state.specs.ClassSizes.{joined_alike, size_in_other, size_in_same
 use Rattle.row_state.specs.Classes.{joined, least_chained}
 use Rattle.row_state.specs.Completion.{finger_of, fingers_left}
 use Rattle.row_state.specs.Component.{component_trails, component_value, further_trails, has_finger, trails_behind, trails_of}
-use Rattle.row_state.specs.ComponentLaw.{EndsBelow, ends_left}
+use Rattle.row_state.specs.ClassWalks.{EndsBelow}
+use Rattle.row_state.specs.ComponentLaw.{ends_left}
 use Rattle.row_state.specs.Gates.{OneDiffers, one_differs, sum_below_same}
 use Rattle.row_state.specs.Parity.{is_odd}
 use Rattle.row_state.specs.Start.{IsKind}

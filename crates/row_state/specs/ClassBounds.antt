@@ -50,7 +50,7 @@ pub record Classes : Type 0 where
   pub odd : ℕ → Bool
 
 -- of a walk that may begin in any class
-pub free_at : ℕ → Classes → ℕ → ℕ
+unfoldable pub free_at : ℕ → Classes → ℕ → ℕ
 free_at n k h = closed (k.has h) (size_in n k.class k.odd h)
 
 -- of a walk that goes on from the open end v
@@ -69,18 +69,6 @@ open_other n k v h other = rw (ne_eqb h (k.class v) other) refl
 -- only a class with a finger has odd nets
 abbrev pub IsEven : ℕ → Classes → Type 0
 IsEven n k = (h : ℕ) → k.has h ≡ false → size_in n k.class k.odd h ≡ 0
-
-pub open_le_free : (n : ℕ) (k : Classes) (v h : ℕ) → IsEven n k → open_at n k v h ≤ free_at n k h
-unfolding free_at
-open_le_free n k v h even = elim (cases_eq h (k.class v)) [
-  | inl e ↦ omega (
-    arith,
-    open_here n k v h e,
-    closed_low (k.has h) (size_in n k.class k.odd h) (size_in n k.class (toggle v k.odd) h) (even h)
-        (size_in_toggle n k.class k.odd h v),
-  )
-  | inr other ↦ omega (arith, open_other n k v h other)
-]
 
 -- The classes k with a finger from l to r more: the classes a of l and b of r are one now.
 pub record IsJoined (n l r : ℕ) (k more : Classes) : Type 0 where

@@ -4,6 +4,7 @@ pub mod Chained
 pub mod ClassBounds
 pub mod ClassSizes
 pub mod ClassSums
+pub mod ClassWalks
 pub mod Classes
 pub mod Code
 pub mod Completion
