@@ -1,6 +1,7 @@
 ghost use Rattle.std.specs.Prelude.{◌≡◌, ◌≤◌, ◌*◌, ◌++◌, decimal, length, IfOk, OnOk};
 ghost use Rattle.std.specs.List.{enumerate_from, flat_map};
-ghost use Rattle.bench_command.specs.Text.{bench_text, cell_name, cell_text, chain_text, head_text, model_text, net_text, transistor_text, word_text};
+ghost use Rattle.bench_command.specs.Text.{bench_text, cell_name, cell_text, chain_text, head_text, model_text};
+ghost use Rattle.bench_command.specs.Text.{net_text, transistor_text, word_text};
 
 use crate::pins::pins;
 use crate::stage::stages;

@@ -33,7 +33,7 @@ fn make_file<D: Desk>(desk: &mut D, file: Output) -> Result<(), WriteFault>
 }
 
 // Makes the files in order.
-#[tactic(auto, using(crate::proofs::Delivered::all_none, crate::proofs::Delivered::rose_wider, log_output::proofs::Giving::quiet_none, log_output::proofs::Giving::untold_behind))]
+#[tactic(auto, using(crate::proofs::Rules::make_files_rules))]
 fn make_files<D: Desk>(desk: &mut D, files: OutputList) -> Result<(), WriteFault>
     ensures all { OnOk result (Both (MakesAll files) (D.view desk.old).made (D.view desk.new).made) }
     ensures some { OnErr result (Both (MakesSome files) (D.view desk.old).made (D.view desk.new).made) }

@@ -23,7 +23,7 @@ fn checking_of<'a>(
     Some(Form::Check {
         cell,
         file,
-        evidence,
+        by: evidence,
     })
 }
 

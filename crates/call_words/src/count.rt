@@ -22,7 +22,7 @@ impl Model for CellCount {
 
 impl CellCount {
     /// The number that a word spells in decimal digits.
-    #[tactic(auto, using(crate::proofs::Numbers::none_spelled, crate::proofs::Numbers::none_more, crate::proofs::Numbers::number_is, crate::proofs::Numbers::no_number))]
+    #[tactic(auto, using(crate::proofs::Rules::spelled_rules))]
     pub fn spelled(word: &str) -> Option<CellCount>
         ensures { result ≡ bench_number word.now }
     {

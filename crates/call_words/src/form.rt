@@ -48,7 +48,7 @@ pub enum Form<'a> {
     Check {
         cell: CellAsked<'a>,
         file: &'a str,
-        evidence: Evidence,
+        by: Evidence,
     },
     /// Whether a file holds a certificate of the fewest tracks of a cell's rows.
     CheckLow {

@@ -77,11 +77,7 @@ fn gather_form<D: Desk>(alloc: Global, desk: &mut D, form: Form<'_>) -> Result<M
             taps,
             evidence,
         } => for_make_low(alloc, desk, &cell, out, taps, evidence),
-        Form::Check {
-            cell,
-            file,
-            evidence,
-        } => for_check(alloc, desk, &cell, file, evidence),
+        Form::Check { cell, file, by } => for_check(alloc, desk, &cell, file, by),
         Form::CheckLow { cell, file } => for_check_low(alloc, desk, &cell, file),
         Form::Extract {
             tech,

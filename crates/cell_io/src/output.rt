@@ -40,7 +40,7 @@ fn put_part<D: Desk>(desk: &mut D, file: Option<&str>, part: &[u8]) -> Result<us
 }
 
 // Puts all the bytes there. After a fault a front of them was put.
-#[tactic(auto, using(crate::proofs::Puts::puts_none, crate::proofs::Puts::puts_stop, crate::proofs::Puts::can_put_still, crate::proofs::Puts::failed_after, crate::proofs::Puts::short_after))]
+#[tactic(auto, using(crate::proofs::Rules::put_all_rules))]
 fn put_all<D: Desk>(desk: &mut D, file: Option<&str>, bytes: &[u8]) -> Result<(), WriteFault>
     requires { CanPut (option_map (λ name. name.now) file) (D.view desk.old) }
     ensures ok { OnOk result (Puts (option_map (λ name. name.now) file.entry) bytes.now (length bytes.now)
@@ -99,7 +99,7 @@ pub fn append_all<D: Desk>(desk: &mut D, name: &str, bytes: &[u8]) -> Result<(),
 
 /// Makes the file with exactly these bytes, and creates it once. After a fault it is as before, or, where this call
 /// created it, has a front of them.
-#[tactic(auto, using(crate::proofs::Puts::created_held_told, crate::proofs::Puts::written_whole, crate::proofs::Puts::written_some, crate::proofs::Puts::makes_then, crate::proofs::Puts::created_once, crate::proofs::Puts::quiet_more, crate::proofs::Puts::failed_after, crate::proofs::Puts::short_after))]
+#[tactic(auto, using(crate::proofs::Rules::write_all_rules))]
 pub fn write_all<D: Desk>(desk: &mut D, name: &str, bytes: &[u8]) -> Result<(), WriteFault>
     ensures ok { OnOk result (Both (Sets name.now (Some bytes.now)) (D.view desk.old).made (D.view desk.new).made) }
     ensures err { OnErr result (((D.view desk.new).made ≡ (D.view desk.old).made)

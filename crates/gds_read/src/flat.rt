@@ -4,8 +4,8 @@ ghost use Rattle.gds_read.specs.Elements.{element_of};
 ghost use Rattle.gds_area.specs.Moves.{IsNear};
 ghost use Rattle.gds_read.specs.Index.{IsIndex};
 ghost use Rattle.gds_area.specs.Progress.{amount, Adds};
-ghost use Rattle.gds_read.specs.Flat.{row_in, copies_in, referred_in, element_in};
-ghost use Rattle.gds_read.specs.Flat.{drawn_record, flat_in, listed_in, IsContext};
+ghost use Rattle.gds_read.specs.Flat.{IsContext, copies_in, drawn_record, element_in, flat_in, listed_in, referred_in};
+ghost use Rattle.gds_read.specs.Flat.{row_in};
 
 use crate::element::{add_boundary, add_path};
 use crate::index::{Index, list_of};
@@ -171,30 +171,13 @@ fn add_element(
     match kind {
         RecordType::Boundary => add_boundary(alloc, bytes, rec, &context.grid, &origin, progress),
         RecordType::Path => add_path(alloc, bytes, rec, &context.grid, &origin, progress),
-        RecordType::Text => {
-            match context.origin {
-                None => add_text(alloc, bytes, rec, &context.grid, progress),
-                Some(_) => Ok(()),
-            }
+        RecordType::Text => match context.origin {
+            None => add_text(alloc, bytes, rec, &context.grid, progress),
+            Some(_) => Ok(()),
+        },
+        RecordType::SRef | RecordType::ARef => {
+            add_reference(alloc, bytes, index, kind, rec, context, progress)
         }
-        RecordType::SRef => add_reference(
-            alloc,
-            bytes,
-            index,
-            RecordType::SRef,
-            rec,
-            context,
-            progress,
-        ),
-        RecordType::ARef => add_reference(
-            alloc,
-            bytes,
-            index,
-            RecordType::ARef,
-            rec,
-            context,
-            progress,
-        ),
         _ => Ok(()),
     }
 }

@@ -6,3 +6,4 @@ pub mod Numbers
 pub mod Parts
 pub mod Searches
 pub mod Splits
+pub mod Rules

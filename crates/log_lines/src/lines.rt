@@ -18,7 +18,7 @@ pub fn find_feed(bytes: &[u8]) -> Option<usize>
 }
 
 /// The first line, if a line feed ends it.
-#[tactic(auto, using(crate::proofs::Feeds::no_line, crate::proofs::Feeds::first_lines, crate::proofs::Feeds::first_behind, crate::proofs::Feeds::feed_within))]
+#[tactic(auto, using(crate::proofs::Rules::first_line_rules))]
 pub fn first_line(bytes: &[u8]) -> Option<Line<'_>>
     ensures none { IfNone result (lines_in bytes.now ≡ []) }
     ensures line { IfSome result (λ first. lines_in bytes.now ≡ first.line.now ∷ lines_in first.after.now) }

@@ -1,4 +1,5 @@
-ghost use Rattle.std.specs.Prelude.{◌==◌, ◌≡◌, ◌≢◌, ◌≤◌, ◌<◌, ◌+◌, ◌↔◌, ◌∷◌, ℕ, decimal, length, map, position, IfSome, IfNone, IfOk, IsTrue};
+ghost use Rattle.std.specs.Prelude.{◌==◌, ◌≡◌, ◌≢◌, ◌≤◌, ◌<◌, ◌+◌, ◌↔◌, ◌∷◌, ℕ, decimal, length, map, position};
+ghost use Rattle.std.specs.Prelude.{IfSome, IfNone, IfOk, IsTrue};
 ghost use Rattle.log_lines.specs.Words.{is_word, number_below, parts_at, parts_left};
 
 use arrayvec::ArrayVec;
@@ -24,7 +25,7 @@ pub struct Part<'a> {
 }
 
 /// The text up to the byte.
-#[tactic(auto, using(crate::proofs::Parts::one_byte, crate::proofs::Parts::second_cut, crate::proofs::Parts::first_cut, crate::proofs::Parts::not_cut))]
+#[tactic(auto, using(crate::proofs::Rules::first_part_rules))]
 pub fn first_part(text: &[u8], byte: u8) -> Part<'_>
     ensures parts { parts_at byte text.now ≡ result.part.now ∷ parts_left byte result.after }
     ensures less { IfSome result.after (λ after. length after.now < length text.now) }
@@ -58,7 +59,7 @@ pub fn first_part(text: &[u8], byte: u8) -> Part<'_>
 }
 
 /// The parts of a text between one byte and the next of its kind, where they are at most `N`.
-#[tactic(auto, using(crate::proofs::Parts::part_more, crate::proofs::Parts::part_last, crate::proofs::Parts::parts_full))]
+#[tactic(auto, using(crate::proofs::Rules::few_parts_rules))]
 pub fn few_parts<const N: usize>(text: &[u8], byte: u8) -> Option<ArrayVec<&[u8], N>>
     ensures some { IfSome result (λ parts. map (λ part. part.now) parts.items ≡ parts_at byte text.now) }
     ensures none { IfNone result (N < length (parts_at byte text.now)) }
@@ -116,7 +117,7 @@ fn digit(byte: u8) -> Option<u32>
 }
 
 // The number below 1000 of which the word is the decimal.
-#[tactic(auto, using(crate::proofs::Digits::one_read, crate::proofs::Digits::two_digits, crate::proofs::Digits::three_digits, crate::proofs::Digits::one_unread, crate::proofs::Digits::not_two_front, crate::proofs::Digits::not_two_back, crate::proofs::Digits::not_three_front, crate::proofs::Digits::not_three_middle, crate::proofs::Digits::not_three_back, crate::proofs::Digits::not_zero, crate::proofs::Digits::not_long))]
+#[tactic(auto, using(crate::proofs::Rules::number_rules))]
 fn number(word: &[u8]) -> Option<u32>
     ensures some { IfSome result (λ n. word.now ≡ decimal n) }
     ensures none { IfNone result ((n : ℕ) → n < 1000 → word.now ≢ decimal n) }
@@ -150,7 +151,7 @@ fn number(word: &[u8]) -> Option<u32>
 }
 
 /// The number of which the word is the decimal, if it is below the limit: signs and zeros in front are not written.
-#[tactic(auto, using(crate::proofs::Numbers::is_below, crate::proofs::Numbers::not_below, crate::proofs::Numbers::no_number))]
+#[tactic(auto, using(crate::proofs::Rules::number_below_rules))]
 pub fn number_below(word: &[u8], limit: u32) -> Option<u32>
     requires { limit ≤ 1000 }
     ensures { result ≡ number_below limit word.now }

@@ -32,7 +32,7 @@ impl Model for Block {
 }
 
 /// Puts all the bytes there.
-#[tactic(auto, using(crate::proofs::Giving::gives_all, crate::proofs::Giving::gives_some, crate::proofs::Giving::keeps_untold))]
+#[tactic(auto, using(crate::proofs::Rules::put_rules))]
 pub fn put<D: Desk>(desk: &mut D, target: Target<'_>, bytes: &[u8]) -> Result<(), WriteFault>
     requires { CanPut (place_of target) (D.view desk.old) }
     ensures all { OnOk result (Gives (place_of target.entry) bytes.now [] (D.view desk.old) (D.view desk.new)) }
@@ -91,7 +91,7 @@ impl Block {
     }
 
     /// Adds a line: it gathers here, after what goes there first where it would not fit.
-    #[tactic(auto, using(crate::proofs::Giving::some_wider, crate::proofs::Giving::some_more, crate::proofs::Giving::gives_none, crate::proofs::Giving::gives_more, crate::proofs::Giving::can_still, crate::proofs::Giving::only_none, crate::proofs::Giving::only_more, crate::proofs::Giving::failed_behind, crate::proofs::Giving::short_behind, crate::proofs::Giving::untold_behind, crate::proofs::Giving::quiet_none))]
+    #[tactic(auto, using(crate::proofs::Rules::add_rules))]
     pub fn add<D: Desk>(
         &mut self,
         desk: &mut D,

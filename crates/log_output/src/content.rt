@@ -63,7 +63,7 @@ impl Content {
     }
 
     /// Puts all of it at the end of the file, or says it.
-    #[tactic(auto, using(crate::proofs::Giving::some_wider, crate::proofs::Giving::some_more, crate::proofs::Giving::gives_more, crate::proofs::Giving::can_still, crate::proofs::Giving::only_more, crate::proofs::Giving::failed_behind, crate::proofs::Giving::short_behind, crate::proofs::Giving::untold_behind, crate::proofs::Giving::quiet_none))]
+    #[tactic(auto, using(crate::proofs::Rules::give_rules))]
     pub fn give<D: Desk>(self, desk: &mut D, target: Target<'_>) -> Result<(), WriteFault>
         requires { CanPut (place_of target) (D.view desk.old) }
         ensures all { OnOk result (Gives (place_of target.entry) self [] (D.view desk.old) (D.view desk.new)) }

@@ -60,7 +60,7 @@ impl Model for LogText {
     ghost invariant = { λ t. CanBeGiven t.name t.log t.lemma t.block };
 }
 
-#[tactic(auto, using(crate::proofs::Fitting::lemma_fits, crate::proofs::Giving::can_still, crate::proofs::Giving::only_none, crate::proofs::Giving::only_more, crate::proofs::Giving::failed_behind, crate::proofs::Giving::short_behind, crate::proofs::Giving::untold_behind, crate::proofs::Giving::quiet_none))]
+#[tactic(auto, using(crate::proofs::Rules::give_lemmas_rules))]
 fn give_lemmas<D: Desk>(
     desk: &mut D,
     target: Target<'_>,
@@ -88,7 +88,7 @@ fn give_lemmas<D: Desk>(
     Ok(())
 }
 
-#[tactic(auto, using(crate::proofs::Fitting::step_fits, crate::proofs::Giving::can_still, crate::proofs::Giving::only_none, crate::proofs::Giving::only_more, crate::proofs::Giving::failed_behind, crate::proofs::Giving::short_behind, crate::proofs::Giving::untold_behind, crate::proofs::Giving::quiet_none))]
+#[tactic(auto, using(crate::proofs::Rules::give_columns_rules))]
 fn give_columns<D: Desk>(
     desk: &mut D,
     target: Target<'_>,
@@ -113,7 +113,7 @@ fn give_columns<D: Desk>(
     Ok(())
 }
 
-#[tactic(auto, using(crate::proofs::Fitting::few_gaps, crate::proofs::Fitting::steps_fit, crate::proofs::Giving::can_still, crate::proofs::Giving::only_none, crate::proofs::Giving::only_more, crate::proofs::Giving::failed_behind, crate::proofs::Giving::short_behind, crate::proofs::Giving::untold_behind, crate::proofs::Giving::quiet_none))]
+#[tactic(auto, using(crate::proofs::Rules::give_best_rules))]
 fn give_best<D: Desk>(
     desk: &mut D,
     target: Target<'_>,
@@ -139,7 +139,7 @@ fn give_best<D: Desk>(
     give_columns(desk, target, block, lines, best.steps.as_slice())
 }
 
-#[tactic(auto, using(crate::proofs::Fitting::version_fits, crate::proofs::Fitting::lemmas_fit, crate::proofs::Fitting::best_fits, crate::proofs::Giving::can_still, crate::proofs::Giving::only_none, crate::proofs::Giving::only_more, crate::proofs::Giving::failed_behind, crate::proofs::Giving::short_behind, crate::proofs::Giving::untold_behind, crate::proofs::Giving::quiet_none))]
+#[tactic(auto, using(crate::proofs::Rules::give_lines_rules))]
 fn give_lines<D: Desk>(
     desk: &mut D,
     target: Target<'_>,
@@ -169,7 +169,7 @@ fn give_lines<D: Desk>(
 }
 
 // The lines, and then what the block still holds.
-#[tactic(auto, using(crate::proofs::Giving::can_still, crate::proofs::Giving::only_none, crate::proofs::Giving::only_more, crate::proofs::Giving::failed_behind, crate::proofs::Giving::short_behind, crate::proofs::Giving::untold_behind, crate::proofs::Giving::quiet_none))]
+#[tactic(auto, using(crate::proofs::Rules::give_whole_rules))]
 fn give_whole<D: Desk>(
     desk: &mut D,
     target: Target<'_>,
