@@ -24,8 +24,8 @@ use Rattle.lemma_check.proofs.States.{same_state_from}
 use Rattle.trail_search.specs.Proof.{AttemptsOnce, IsAttempt}
 use Rattle.trail_search.specs.Behind.{fingers_behind}
 use Rattle.trail_search.specs.Searched.{AreSearched, Bounded, IsBounded, IsStateWithin, IsBoundWithin, IsTryWithin, IsTry, nodes_of}
-use Rattle.trail_search.specs.declared.halt.Halt.{Halt}
-use Rattle.trail_search.specs.declared.halt.Halt.TheVariants as halted
+use Rattle.cell_num.specs.declared.halt.Halt.{Halt}
+use Rattle.cell_num.specs.declared.halt.Halt.TheVariants as halted
 use Rattle.trail_search.specs.Visit.{IfSpent, IsRaised, IsSpent, TriesOnce}
 
 abbrev Differ : Bounded → Bounded → Type 0

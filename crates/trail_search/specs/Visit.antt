@@ -10,8 +10,8 @@ use Rattle.lemma_check.specs.Known.{best_known}
 use Rattle.row_search.specs.Steps.{IsStep, row_of}
 use Rattle.row_search.specs.Visit.{IsFirstWithin}
 use Rattle.trail_search.specs.Searched.{Bounded, IsBounded, IsStateWithin, IsBoundWithin, IsTryWithin, IsTry, Try, nodes_of}
-use Rattle.trail_search.specs.declared.halt.Halt.{Halt}
-use Rattle.trail_search.specs.declared.halt.Halt.TheVariants as halted
+use Rattle.cell_num.specs.declared.halt.Halt.{Halt}
+use Rattle.cell_num.specs.declared.halt.Halt.TheVariants as halted
 
 -- every completion of a valid state has as many further gaps as is known of the state
 abbrev pub AreTrue : Kinds → Known → Type 0

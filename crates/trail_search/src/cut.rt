@@ -4,10 +4,9 @@ ghost use Rattle.row_state.specs.Start.{IsState};
 ghost use Rattle.trail_search.specs.Visit.{Halts, IfSpent, TriesOnce};
 
 use crate::behind::behind;
-use crate::halt::Halt;
 use crate::proof::RefuteStop;
 use crate::refute::is_refuted;
-use cell_num::{NoMemory, Row, are_fingers};
+use cell_num::{Halt, NoMemory, Row, are_fingers};
 use row_state::{Component, Kinds, RowBound, State};
 use std::alloc::Global;
 

@@ -6,8 +6,7 @@ ghost use Rattle.lemma_check.specs.Known.{best_known};
 ghost use Rattle.trail_search.specs.Visit.{AreTrue, Halts, IfSpent, IsFirstOf, IsSpent};
 
 use crate::cut::exceeds_allowed;
-use crate::halt::Halt;
-use cell_num::MOST_COLUMNS;
+use cell_num::{Halt, MOST_COLUMNS};
 use lemma_check::Known;
 use row_state::{Candidate, Kinds, Numbered, Steps, has_fingers};
 use std::alloc::Global;

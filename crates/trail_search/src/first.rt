@@ -7,9 +7,8 @@ ghost use Rattle.trail_search.specs.Searched.{AreSearched};
 ghost use Rattle.trail_search.specs.Visit.{Halts, IfSpent};
 
 use crate::descent::{Task, visit};
-use crate::halt::Halt;
 use bound_log::Best;
-use cell_num::{MOST_COLUMNS, NoMemory};
+use cell_num::{Halt, MOST_COLUMNS, NoMemory};
 use lemma_check::Known;
 use row_model::Arrangement;
 use row_search::{arrangement, log_steps};

@@ -8,7 +8,6 @@ mod descent;
 mod first;
 mod found;
 mod gates;
-mod halt;
 mod kept;
 mod limits;
 mod line;

@@ -7,12 +7,11 @@ ghost use Rattle.trail_search.specs.Reached.{AreReached};
 ghost use Rattle.trail_search.specs.Search.{AreChained, AreKept, AreSmall, AreTied, IsFurther};
 
 use crate::gates::fill;
-use crate::halt::Halt;
 use crate::kept::Kept;
 use crate::order::order;
 use crate::proof::{Proof, ProveStop};
 use crate::visit::visit;
-use cell_num::{Fingers, List, NoMemory};
+use cell_num::{Fingers, Halt, List, NoMemory};
 use std::alloc::Global;
 use trail_check::{first_with_many, levels_of};
 use trail_log::TrailCertificate;

@@ -10,7 +10,7 @@ use trail_state::{Node, open_nodes};
 
 // A gate, and the nodes that its columns can have at their ends.
 #[derive(Drop)]
-struct Gate {
+struct GateNodes {
     gate: NetNo,
     nodes: List<Node>,
 }
@@ -64,7 +64,7 @@ fn closes(meetings: &[Meeting], node: &Node) -> bool {
     }
 }
 
-fn nodes_of<'a>(gates: &'a [Gate], gate: &NetNo) -> &'a [Node] {
+fn nodes_of<'a>(gates: &'a [GateNodes], gate: &NetNo) -> &'a [Node] {
     match gates.iter().find(|other| other.gate == *gate) {
         Some(found) => found.nodes.as_slice(),
         None => &[],
@@ -79,7 +79,7 @@ fn weight(meetings: &[Meeting], nodes: &[Node]) -> usize {
 }
 
 // Where the first of the gates with the least weight stands among those that are left.
-fn next(meetings: &[Meeting], gates: &[Gate], left: &[NetNo]) -> usize
+fn next(meetings: &[Meeting], gates: &[GateNodes], left: &[NetNo]) -> usize
     requires { 0 < length left.now }
     ensures { result < length left.now }
 {
@@ -95,18 +95,22 @@ fn next(meetings: &[Meeting], gates: &[Gate], left: &[NetNo]) -> usize
     best
 }
 
-fn with_nodes(alloc: Global, fingers: &Fingers, gates: &[NetNo]) -> Result<List<Gate>, NoMemory>
+fn with_nodes(
+    alloc: Global,
+    fingers: &Fingers,
+    gates: &[NetNo],
+) -> Result<List<GateNodes>, NoMemory>
     requires { AreFingers fingers.now }
 {
     let mut all = List::new(alloc);
     for gate in gates {
         let nodes = open_nodes(alloc, fingers, &[*gate])?;
-        all.push(Gate { gate: *gate, nodes })?;
+        all.push(GateNodes { gate: *gate, nodes })?;
     }
     Ok(all)
 }
 
-fn met_by(alloc: Global, fingers: &Fingers, gates: &[Gate]) -> Result<Vec<Meeting>, AllocError>
+fn met_by(alloc: Global, fingers: &Fingers, gates: &[GateNodes]) -> Result<Vec<Meeting>, AllocError>
     requires { AreFingers fingers.now }
 {
     let mut meetings = no_meetings(alloc, fingers)?;

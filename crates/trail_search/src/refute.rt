@@ -5,13 +5,12 @@ ghost use Rattle.row_model.specs.Arrangement.{IsArrangement};
 ghost use Rattle.row_model.specs.Gaps.{gaps_of};
 ghost use Rattle.trail_search.specs.Proof.{AttemptsOnce, AttemptsStopped, EndsRefuting, HasMost};
 
-use crate::halt::Halt;
 use crate::kept::Kept;
 use crate::limits::{MOST_LIMIT, most_ends};
 use crate::order::order;
 use crate::proof::RefuteStop;
 use crate::visit::visit;
-use cell_num::Fingers;
+use cell_num::{Fingers, Halt};
 use std::alloc::Global;
 use trail_check::{first_with_many, levels_of};
 use trail_state::TrailState;

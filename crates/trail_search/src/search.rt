@@ -5,12 +5,11 @@ ghost use Rattle.trail_search.specs.Ended.{IsFound, Stops};
 ghost use Rattle.trail_search.specs.First.{with_best};
 
 use crate::first::first_row;
-use crate::halt::Halt;
 use crate::limits::prove;
 use crate::proof::{Proof, ProveStop};
 use crate::{TrailFound, TrailStop};
 use bound_log::Best;
-use cell_num::Fingers;
+use cell_num::{Fingers, Halt};
 use row_state::kinds;
 use std::alloc::Global;
 use trail_log::TrailCertificate;

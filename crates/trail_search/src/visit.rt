@@ -2,13 +2,12 @@ ghost use Rattle.std.specs.Prelude.{◌≡◌, ◌≤◌, ◌+◌, ◌-◌, true
 ghost use Rattle.trail_state.specs.Levels.{Ends};
 ghost use Rattle.trail_check.specs.Justified.{is_known};
 ghost use Rattle.trail_check.specs.Listed.{nodes_of};
-ghost use Rattle.trail_search.specs.declared.halt.Halt.TheVariants as halt;
+ghost use Rattle.cell_num.specs.declared.halt.Halt.TheVariants as halt;
 ghost use Rattle.trail_search.specs.Search.{AreChained, AreKept, AreSmall, AreTied, IsFurther, IsStateOf, StayAs};
 ghost use Rattle.trail_search.specs.Search.{StayWithin};
 
-use crate::halt::Halt;
 use crate::kept::Kept;
-use cell_num::List;
+use cell_num::{Halt, List};
 use std::alloc::Global;
 use trail_state::{Level, TrailState, after};
 

@@ -18,7 +18,7 @@ use Rattle.row_model.specs.declared.column.Column.{Column}
 use Rattle.row_model.specs.Arrangement.{IsArrangement, IsColumn, IsPlaced}
 use Rattle.row_model.specs.Gaps.{left_net, right_net}
 use Rattle.trail_state.specs.declared.edge.Edge.{Edge}
-use Rattle.trail_state.specs.declared.edge.NetPair.{NetPair}
+use Rattle.trail_state.specs.declared.edge.FingerEnds.{FingerEnds}
 use Rattle.trail_state.specs.Edges.{edge_of, n_edges, p_edges, pair_edges}
 use Rattle.trail_state.specs.Sorted.{inserted, inserted_permutes}
 use Rattle.trail_state.specs.declared.front.Part.{Part}
@@ -37,13 +37,13 @@ use Rattle.trail_state.proofs.Paired.{Listed, drop_more}
 use Rattle.trail_state.proofs.Picked.{gate_listed}
 
 -- a finger with these nets, and the others
-record Taken (y : NetPair) (rs : List Finger) : Type 0 where
+record Taken (y : FingerEnds) (rs : List Finger) : Type 0 where
   pub it : Finger
   pub rest : List Finger
   pub nets : nets_at it ≡ y
   pub all : IsPermutation rs (it ∷ rest)
 
-taken : (y : NetPair) (rs : List Finger) → Contains (map nets_at rs) y → Taken y rs
+taken : (y : FingerEnds) (rs : List Finger) → Contains (map nets_at rs) y → Taken y rs
 taken y [] c = absurd (contains_none y c)
 taken y (r ∷ rs) c = elim (contains_cons (nets_at r) (map nets_at rs) y c) [
   | inl same ↦ record { it = r; rest = rs; nets = same; all = IsPermutation-refl (r ∷ rs) }
@@ -57,7 +57,7 @@ taken y (r ∷ rs) c = elim (contains_cons (nets_at r) (map nets_at rs) y c) [
       }
 ]
 
-left_taken : (y : NetPair) (rs : List Finger) (t : Taken y rs) (left others : List NetPair) → IsPermutation (map nets_at rs) left → IsPermutation left (y ∷ others) → IsPermutation (map nets_at t.rest) others
+left_taken : (y : FingerEnds) (rs : List Finger) (t : Taken y rs) (left others : List FingerEnds) → IsPermutation (map nets_at rs) left → IsPermutation left (y ∷ others) → IsPermutation (map nets_at t.rest) others
 left_taken y rs t left others is all =
     let first : IsPermutation (map nets_at rs) (y ∷ map nets_at t.rest) = subst (λ v. IsPermutation (map nets_at rs) (v ∷ map nets_at t.rest)) t.nets (IsPermutation-map nets_at rs (t.it ∷ t.rest) t.all) in
     nets_uncons y (map nets_at t.rest) others
@@ -88,7 +88,7 @@ record Built (f : Fingers) (g : ℕ) (rest : List Finger) (part : Part) (k : ℕ
   pub p_few : length rest + k ≤ columns_in (gate_of f g)
   pub n_few : length part.left + k ≤ columns_in (gate_of f g)
 
-grown : (f : Fingers) (g : ℕ) (rest : List Finger) (part : Part) (k : ℕ) (b : Built f g rest part k) (z : Drawn) (p_rest n_rest : List Finger) (left : List NetPair) → IsDrawn f z → IsColumn z.0 → IsPermutation rest (cons_option (finger_of_place P z) p_rest) → IsPermutation b.n_rest (cons_option (finger_of_place N z) n_rest) → IsPermutation (map nets_at n_rest) left → length p_rest + suc k ≤ columns_in (gate_of f g) → length left + suc k ≤ columns_in (gate_of f g) → Built f g p_rest (record { edges = inserted z.1 part.edges; left = left }) (suc k)
+grown : (f : Fingers) (g : ℕ) (rest : List Finger) (part : Part) (k : ℕ) (b : Built f g rest part k) (z : Drawn) (p_rest n_rest : List Finger) (left : List FingerEnds) → IsDrawn f z → IsColumn z.0 → IsPermutation rest (cons_option (finger_of_place P z) p_rest) → IsPermutation b.n_rest (cons_option (finger_of_place N z) n_rest) → IsPermutation (map nets_at n_rest) left → length p_rest + suc k ≤ columns_in (gate_of f g) → length left + suc k ≤ columns_in (gate_of f g) → Built f g p_rest (record { edges = inserted z.1 part.edges; left = left }) (suc k)
 grown f g rest part k b z p_rest n_rest left drawn column p n nets p_few n_few = record {
   zs = z ∷ b.zs;
   n_rest = n_rest;
@@ -141,7 +141,7 @@ turned q r e c = elim (contains_cons (edge_of q.lo.0 r.lo.0 q.hi.0 r.hi.0) (edge
       | inr two ↦ record { flipped = true; placed = λ loop. absurd (two (ap (λ (n : NetNo). n.0) loop)); edge = sym same }
     ]
 
-pair_built : (f : Fingers) (g : ℕ) (q : Finger) (qs : List Finger) (part : Part) (k : ℕ) → Built f g (q ∷ qs) part k → (y : NetPair) → Contains part.left y → (e : Edge) → Contains (pair_edges (nets_at q) y) e → Built f g qs (record { edges = inserted e part.edges; left = without y part.left }) (suc k)
+pair_built : (f : Fingers) (g : ℕ) (q : Finger) (qs : List Finger) (part : Part) (k : ℕ) → Built f g (q ∷ qs) part k → (y : FingerEnds) → Contains part.left y → (e : Edge) → Contains (pair_edges (nets_at q) y) e → Built f g qs (record { edges = inserted e part.edges; left = without y part.left }) (suc k)
 pair_built f g q qs part k b y there e c =
     let all : IsPermutation part.left (y ∷ without y part.left) = one_taken y part.left there in
     let t : Taken y b.n_rest = taken y b.n_rest (Contains-permutation part.left (map nets_at b.n_rest) y (IsPermutation-sym (map nets_at b.n_rest) part.left b.left) there) in
@@ -170,7 +170,7 @@ alone_built f g q qs part k b few e c =
     (omega (arith, b.p_few))
     (omega (arith, b.p_few, few))
 
-n_built : (f : Fingers) (g : ℕ) (part : Part) (k : ℕ) → Built f g [] part k → (y : NetPair) (ys : List NetPair) → part.left ≡ y ∷ ys → (e : Edge) → Contains (n_edges (gate_of f g).p_fill y) e → Built f g [] (record { edges = inserted e part.edges; left = ys }) (suc k)
+n_built : (f : Fingers) (g : ℕ) (part : Part) (k : ℕ) → Built f g [] part k → (y : FingerEnds) (ys : List FingerEnds) → part.left ≡ y ∷ ys → (e : Edge) → Contains (n_edges (gate_of f g).p_fill y) e → Built f g [] (record { edges = inserted e part.edges; left = ys }) (suc k)
 n_built f g part k b y ys is e c =
     let all : IsPermutation part.left (y ∷ ys) = subst (IsPermutation part.left) is (IsPermutation-refl part.left) in
     let there : Contains part.left y = subst (λ l. Contains l y) (sym is) (contains_here y ys) in
@@ -190,7 +190,7 @@ n_built f g part k b y ys is e c =
 next_built : (f : Fingers) (g : ℕ) (rest : List Finger) (part it : Part) (k : ℕ) → Built f g rest part k → Contains (next_parts (gate_of f g) (map nets_at rest) part) it → Built f g (drop 1 rest) it (suc k)
 next_built f g [] part it k b c = by_left part.left refl c
   where
-    by_left : (left : List NetPair) → part.left ≡ left → Contains (n_alone (gate_of f g) part left) it → Built f g [] it (suc k)
+    by_left : (left : List FingerEnds) → part.left ≡ left → Contains (n_alone (gate_of f g) part left) it → Built f g [] it (suc k)
     by_left [] is there = absurd (contains_none it there)
     by_left (y ∷ ys) is there =
         let i : Image (λ (e : Edge). let p : Part = record { edges = inserted e part.edges; left = ys } in p) (n_edges (gate_of f g).p_fill y) it = in_map (λ (e : Edge). let p : Part = record { edges = inserted e part.edges; left = ys } in p) (n_edges (gate_of f g).p_fill y) it there in

@@ -9,7 +9,7 @@ use Rattle.cell_num.proofs.In.{contains_in, in_append, in_contains}
 use Rattle.cell_num.proofs.Lists.{contains_cons, contains_here, contains_none, contains_one, contains_there}
 use Rattle.cell_num.proofs.Pairs.{Some', test_finds}
 use Rattle.cell_num.proofs.Permutations.{count_cons, permutation_from_counts}
-use Rattle.trail_state.specs.declared.edge.NetPair.{NetPair}
+use Rattle.trail_state.specs.declared.edge.FingerEnds.{FingerEnds}
 use Rattle.trail_state.specs.declared.front.Part.{Part}
 use Rattle.trail_state.specs.declared.gate.Gate.{Gate}
 use Rattle.trail_state.specs.Fronts.{is_same, next_front, next_parts, same_nets, with_all, with_new, without}
@@ -40,14 +40,14 @@ each_there (q ∷ more) parts p there = elim (contains_cons q more p there) [
   | inr rest ↦ each_there more (with_new parts q) p rest
 ]
 
-abbrev behind : Gate → List NetPair → List Part → List Part → List Part
+abbrev behind : Gate → List FingerEnds → List Part → List Part → List Part
 behind gate xs parts front = fold (λ (all : List Part) (part : Part). with_all all (next_parts gate xs part)) parts front
 
-front_kept : (gate : Gate) (xs : List NetPair) (front parts : List Part) (p : Part) → Contains parts p → Contains (behind gate xs parts front) p
+front_kept : (gate : Gate) (xs : List FingerEnds) (front parts : List Part) (p : Part) → Contains parts p → Contains (behind gate xs parts front) p
 front_kept gate xs [] parts p there = there
 front_kept gate xs (q ∷ front) parts p there = front_kept gate xs front (with_all parts (next_parts gate xs q)) p (all_kept (next_parts gate xs q) parts p there)
 
-each_behind : (gate : Gate) (xs : List NetPair) (front parts : List Part) (part p : Part) → Contains front part → Contains (next_parts gate xs part) p → Contains (behind gate xs parts front) p
+each_behind : (gate : Gate) (xs : List FingerEnds) (front parts : List Part) (part p : Part) → Contains front part → Contains (next_parts gate xs part) p → Contains (behind gate xs parts front) p
 each_behind gate xs [] parts part p there more = absurd (contains_none part there)
 each_behind gate xs (q ∷ front) parts part p there more = elim (contains_cons q front part there) [
   | inl same ↦ front_kept gate xs front (with_all parts (next_parts gate xs q)) p (each_there (next_parts gate xs q) parts p (subst (λ (v : Part). Contains (next_parts gate xs v) p) (sym same) more))
@@ -55,7 +55,7 @@ each_behind gate xs (q ∷ front) parts part p there more = elim (contains_cons 
 ]
 
 -- a part of a front with a column more is in the next front
-pub front_has : (gate : Gate) (xs : List NetPair) (front : List Part) (part p : Part) → Contains front part → Contains (next_parts gate xs part) p → Contains (next_front gate xs front) p
+pub front_has : (gate : Gate) (xs : List FingerEnds) (front : List Part) (part p : Part) → Contains front part → Contains (next_parts gate xs part) p → Contains (next_front gate xs front) p
 front_has gate xs front part p there more = each_behind gate xs front [] part p there more
 
 -- what one of two lists has
@@ -85,12 +85,12 @@ all_from (q ∷ more) parts p there = elim (all_from more (with_new parts q) p t
 ]
 
 -- a part of the front that this one is with a column more
-pub record Before (gate : Gate) (xs : List NetPair) (front : List Part) (p : Part) : Type 0 where
+pub record Before (gate : Gate) (xs : List FingerEnds) (front : List Part) (p : Part) : Type 0 where
   pub part : Part
   pub there : Contains front part
   pub next : Contains (next_parts gate xs part) p
 
-each_from : (gate : Gate) (xs : List NetPair) (front parts : List Part) (p : Part) → Contains (behind gate xs parts front) p → Contains parts p ⊎ Before gate xs front p
+each_from : (gate : Gate) (xs : List FingerEnds) (front parts : List Part) (p : Part) → Contains (behind gate xs parts front) p → Contains parts p ⊎ Before gate xs front p
 each_from gate xs [] parts p there = inl there
 each_from gate xs (q ∷ front) parts p there = elim (each_from gate xs front (with_all parts (next_parts gate xs q)) p there) [
   | inl old ↦ elim (all_from (next_parts gate xs q) parts p old) [
@@ -101,7 +101,7 @@ each_from gate xs (q ∷ front) parts p there = elim (each_from gate xs front (w
 ]
 
 -- a part of the next front is one of this front with a column more
-pub front_from : (gate : Gate) (xs : List NetPair) (front : List Part) (p : Part) → Contains (next_front gate xs front) p → Before gate xs front p
+pub front_from : (gate : Gate) (xs : List FingerEnds) (front : List Part) (p : Part) → Contains (next_front gate xs front) p → Before gate xs front p
 front_from gate xs front p there = elim (each_from gate xs front [] p there) [
   | inl none ↦ absurd (contains_none p none)
   | inr b ↦ b
@@ -109,7 +109,7 @@ front_from gate xs front p there = elim (each_from gate xs front [] p there) [
 
 -- ---- fingers left without one
 
-pub one_taken : (y : NetPair) (left : List NetPair) → Contains left y → IsPermutation left (y ∷ without y left)
+pub one_taken : (y : FingerEnds) (left : List FingerEnds) → Contains left y → IsPermutation left (y ∷ without y left)
 one_taken y left (k, within, is) =
     let test : same_nets y y ≡ true = (nets_decides y y).1 refl in
     let at : ℕ = position_or_len (same_nets y) left in
@@ -122,7 +122,7 @@ one_taken y left (k, within, is) =
     let mine : left ≡ before_first (same_nets y) left ++ (y ∷ after_first (same_nets y) left) = split ∙ ap (λ v. before_first (same_nets y) left ++ (v ∷ after_first (same_nets y) left)) (sym same) in
     subst (λ l. IsPermutation l (y ∷ without y left)) (sym mine) (IsPermutation-middle (before_first (same_nets y) left) y (after_first (same_nets y) left))
 
-pub nets_uncons : (x : NetPair) (xs ys : List NetPair) → IsPermutation (x ∷ xs) (x ∷ ys) → IsPermutation xs ys
+pub nets_uncons : (x : FingerEnds) (xs ys : List FingerEnds) → IsPermutation (x ∷ xs) (x ∷ ys) → IsPermutation xs ys
 nets_uncons x xs ys h =
     let same : length ys ≡ length xs = omega (arith, length_permutation (x ∷ xs) (x ∷ ys) h) in
     permutation_from_counts same_nets nets_decides xs ys same

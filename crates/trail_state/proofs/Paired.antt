@@ -10,7 +10,7 @@ use Rattle.cell_num.proofs.In.{contains_flat, contains_map}
 use Rattle.cell_num.proofs.Lists.{contains_here, contains_there}
 use Rattle.row_model.specs.declared.column.Placed.{Placed}
 use Rattle.trail_state.specs.declared.edge.Edge.{Edge}
-use Rattle.trail_state.specs.declared.edge.NetPair.{NetPair}
+use Rattle.trail_state.specs.declared.edge.FingerEnds.{FingerEnds}
 use Rattle.trail_state.specs.Edges.{edge_between, edge_of, n_edges, p_edges, pair_edges, pair_node}
 use Rattle.trail_state.specs.Sorted.{inserted, inserted_permutes}
 use Rattle.trail_state.specs.declared.front.Part.{Part}
@@ -54,14 +54,14 @@ pair_there x y false true = unlike_there x y
 pair_there x y true false = subst (Contains (pair_edges (nets_at x) (nets_at y))) (turned x.lo.0 y.hi.0 x.hi.0 y.lo.0) (unlike_there x y)
 pair_there x y true true = subst (Contains (pair_edges (nets_at x) (nets_at y))) (turned x.lo.0 y.lo.0 x.hi.0 y.hi.0) (alike_there x y)
 
-p_plain : (nets : List ℕ) (x : NetPair) (l r : ℕ) → Contains nets l → Contains nets r → Contains (p_edges nets x) (edge_of x.lo l x.hi r)
+p_plain : (nets : List ℕ) (x : FingerEnds) (l r : ℕ) → Contains nets l → Contains nets r → Contains (p_edges nets x) (edge_of x.lo l x.hi r)
 p_plain nets x l r cl cr = contains_flat (λ u. map (λ v. edge_of x.lo u x.hi v) nets) nets l (edge_of x.lo l x.hi r) cl (contains_map (λ v. edge_of x.lo l x.hi v) nets r cr)
 
 p_there : (nets : List ℕ) (x : Finger) (a : Bool) (l r : ℕ) → Contains nets l → Contains nets r → Contains (p_edges nets (nets_at x)) (edge_of (net_left a x) l (net_right a x) r)
 p_there nets x false l r cl cr = p_plain nets (nets_at x) l r cl cr
 p_there nets x true l r cl cr = subst (Contains (p_edges nets (nets_at x))) (turned x.lo.0 r x.hi.0 l) (p_plain nets (nets_at x) r l cr cl)
 
-n_plain : (nets : List ℕ) (y : NetPair) (l r : ℕ) → Contains nets l → Contains nets r → Contains (n_edges nets y) (edge_of l y.lo r y.hi)
+n_plain : (nets : List ℕ) (y : FingerEnds) (l r : ℕ) → Contains nets l → Contains nets r → Contains (n_edges nets y) (edge_of l y.lo r y.hi)
 n_plain nets y l r cl cr = contains_flat (λ u. map (λ v. edge_of u y.lo v y.hi) nets) nets l (edge_of l y.lo r y.hi) cl (contains_map (λ v. edge_of l y.lo v y.hi) nets r cr)
 
 n_there : (nets : List ℕ) (y : Finger) (b : Bool) (l r : ℕ) → Contains nets l → Contains nets r → Contains (n_edges nets (nets_at y)) (edge_of l (net_left b y) r (net_right b y))
@@ -75,7 +75,7 @@ paired_edge : (f : Fingers) (z : Drawn) (x y : Placed) → z.0.p ≡ Some x → 
 paired_edge f z x y is_x is_y drawn = subst (Contains (pair_edges (nets_at x.finger) (nets_at y.finger))) (sym (drawn_as f z (Some x) (Some y) is_x is_y drawn)) (pair_there x.finger y.finger x.flipped y.flipped)
 
 -- columns with edges that arrange fingers with these nets, as few as they allow
-pub record Arranged (f : Fingers) (xs ys : List NetPair) (zs : List Drawn) : Type 0 where
+pub record Arranged (f : Fingers) (xs ys : List FingerEnds) (zs : List Drawn) : Type 0 where
   pub drawn : All (IsDrawn f) zs
   pub p : IsPermutation xs (row_nets P zs)
   pub n : IsPermutation ys (row_nets N zs)
@@ -114,7 +114,7 @@ module _ (f : Fingers) (gate : Gate) (fill_p : (v : ℕ) → is_net_in f.p v ≡
       subst (Contains (n_edges gate.p_fill (nets_at y.finger))) (sym same) (n_there gate.p_fill y.finger y.flipped u v (fill_p u u_in) (fill_p v v_in))
 
   -- the part with one of the columns, which some of its next parts is
-  record Longer (xs : List NetPair) (part : Part) (zs : List Drawn) : Type 0 where
+  record Longer (xs : List FingerEnds) (part : Part) (zs : List Drawn) : Type 0 where
     pub it : Part
     pub rest : List Drawn
     pub there : Contains (next_parts gate xs part) it
@@ -122,7 +122,7 @@ module _ (f : Fingers) (gate : Gate) (fill_p : (v : ℕ) → is_net_in f.p v ≡
     pub edges : IsPermutation (map edge_at zs ++ part.edges) (map edge_at rest ++ it.edges)
     pub fewer : length zs ≡ 1 + length rest
 
-  with_one : (part : Part) (left : List NetPair) (edges : List Edge) (e : Edge) → Contains edges e → Contains (with_column part left edges) (record { edges = inserted e part.edges; left = left })
+  with_one : (part : Part) (left : List FingerEnds) (edges : List Edge) (e : Edge) → Contains edges e → Contains (with_column part left edges) (record { edges = inserted e part.edges; left = left })
   with_one part left edges e there = contains_map (λ (d : Edge). let p : Part = record { edges = inserted d part.edges; left = left } in p) edges e there
 
   drawn_all : (zs before behind : List Drawn) (z : Drawn) → zs ≡ before ++ z ∷ behind → All (IsDrawn f) zs → All (IsDrawn f) (z ∷ (before ++ behind))
@@ -131,7 +131,7 @@ module _ (f : Fingers) (gate : Gate) (fill_p : (v : ℕ) → is_net_in f.p v ≡
   many : (zs before behind : List Drawn) (z : Drawn) → zs ≡ before ++ z ∷ behind → length zs ≡ 1 + length (before ++ behind)
   many zs before behind z is = omega (arith, ap length is, length-append before (z ∷ behind), length-append before behind)
 
-  p_longer : (x : NetPair) (xs : List NetPair) (part : Part) (zs : List Drawn) → Arranged f (x ∷ xs) part.left zs → Longer (x ∷ xs) part zs
+  p_longer : (x : FingerEnds) (xs : List FingerEnds) (part : Part) (zs : List Drawn) → Arranged f (x ∷ xs) part.left zs → Longer (x ∷ xs) part zs
   p_longer x xs part zs h =
       let k : Holder P x zs = holder P x zs (Contains-permutation (x ∷ xs) (row_nets P zs) x h.p (contains_here x xs)) in
       at_place k k.at.0.n refl
@@ -142,7 +142,7 @@ module _ (f : Fingers) (gate : Gate) (fill_p : (v : ℕ) → is_net_in f.p v ≡
       p_rest : (k : Holder P x zs) → IsPermutation xs (row_nets P (k.before ++ k.behind))
       p_rest k = nets_uncons x xs (row_nets P (k.before ++ k.behind)) (subst (λ u. IsPermutation (x ∷ xs) (u ∷ row_nets P (k.before ++ k.behind))) k.nets (apart P (x ∷ xs) zs k.before k.behind k.at (Some k.placed) h.p k.is k.place))
 
-      longer : (k : Holder P x zs) (left : List NetPair) → IsPermutation left (row_nets N (k.before ++ k.behind)) → length (k.before ++ k.behind) ≡ max (length xs) (length left) → Contains (next_parts gate (x ∷ xs) part) (record { edges = inserted k.at.1 part.edges; left = left }) → Longer (x ∷ xs) part zs
+      longer : (k : Holder P x zs) (left : List FingerEnds) → IsPermutation left (row_nets N (k.before ++ k.behind)) → length (k.before ++ k.behind) ≡ max (length xs) (length left) → Contains (next_parts gate (x ∷ xs) part) (record { edges = inserted k.at.1 part.edges; left = left }) → Longer (x ∷ xs) part zs
       longer k left n few there = record {
         it = record { edges = inserted k.at.1 part.edges; left = left };
         rest = k.before ++ k.behind;
@@ -154,7 +154,7 @@ module _ (f : Fingers) (gate : Gate) (fill_p : (v : ℕ) → is_net_in f.p v ≡
 
       at_place : (k : Holder P x zs) (o : Option Placed) → k.at.0.n ≡ o → Longer (x ∷ xs) part zs
       at_place k (Some y) is =
-          let left : List NetPair = without (nets_at y.finger) part.left in
+          let left : List FingerEnds = without (nets_at y.finger) part.left in
           let n : Contains part.left (nets_at y.finger) × IsPermutation left (row_nets N (k.before ++ k.behind)) = left_apart N part.left zs k.before k.behind k.at y h.n k.is is in
           let edge : Contains (pair_edges x (nets_at y.finger)) k.at.1 = subst (λ u. Contains (pair_edges u (nets_at y.finger)) k.at.1) k.nets (paired_edge f k.at k.placed y k.place is (All-head (IsDrawn f) k.at (k.before ++ k.behind) (drawn k))) in
           let it : Part = record { edges = inserted k.at.1 part.edges; left = left } in
@@ -172,7 +172,7 @@ module _ (f : Fingers) (gate : Gate) (fill_p : (v : ℕ) → is_net_in f.p v ≡
           longer k part.left n (omega (arith, h.fewest, many zs k.before k.behind k.at k.is, few))
           (Contains-append_right (paired x part) (alone gate x xs part) it (subst (λ l. Contains l it) (sym may) (with_one part part.left (p_edges gate.n_fill x) k.at.1 edge)))
 
-  n_longer : (y : NetPair) (ys : List NetPair) (part : Part) (zs : List Drawn) → part.left ≡ y ∷ ys → Arranged f [] (y ∷ ys) zs → Longer [] part zs
+  n_longer : (y : FingerEnds) (ys : List FingerEnds) (part : Part) (zs : List Drawn) → part.left ≡ y ∷ ys → Arranged f [] (y ∷ ys) zs → Longer [] part zs
   n_longer y ys part zs left h =
       let k : Holder N y zs = holder N y zs (Contains-permutation (y ∷ ys) (row_nets N zs) y h.n (contains_here y ys)) in
       at_place k k.at.0.p refl
@@ -198,7 +198,7 @@ module _ (f : Fingers) (gate : Gate) (fill_p : (v : ℕ) → is_net_in f.p v ≡
             fewer = many zs k.before k.behind k.at k.is;
           }
 
-  longer : (xs left : List NetPair) (part : Part) (zs : List Drawn) (k : ℕ) → part.left ≡ left → Arranged f xs left zs → length zs ≡ suc k → Longer xs part zs
+  longer : (xs left : List FingerEnds) (part : Part) (zs : List Drawn) (k : ℕ) → part.left ≡ left → Arranged f xs left zs → length zs ≡ suc k → Longer xs part zs
   longer [] [] part zs k is h some = absurd (omega (arith, h.fewest, some))
   longer [] (y ∷ ys) part zs k is h some = n_longer y ys part zs is h
   longer (x ∷ xs) left part zs k is h some = p_longer x xs part zs (subst (λ l. Arranged f (x ∷ xs) l zs) (sym is) h)

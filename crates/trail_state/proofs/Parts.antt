@@ -9,7 +9,7 @@ use Rattle.std.proofs.lemmas.List.Folds.{list_any-append}
 use Rattle.std.proofs.lemmas.List.FromFn.{get_or-range_with_len, length-range_with_len, map-range_with_len_more}
 use Rattle.std.proofs.lemmas.List.Sums.{fold-append}
 use Rattle.cell_num.proofs.Lists.{contains_cons, contains_none}
-use Rattle.trail_state.specs.declared.edge.NetPair.{NetPair}
+use Rattle.trail_state.specs.declared.edge.FingerEnds.{FingerEnds}
 use Rattle.trail_state.specs.declared.front.Part.{Part}
 use Rattle.trail_state.specs.declared.gate.Gate.{Gate}
 use Rattle.trail_state.specs.Fronts.{is_same, next_front, next_parts, same_nets, with_all, with_new, without}
@@ -26,12 +26,12 @@ all_long : (more parts : List Part) → length parts ≤ length (with_all parts 
 all_long [] parts = omega arith
 all_long (p ∷ more) parts = omega (arith, new_long parts p, all_long more (with_new parts p))
 
-front_long : (gate : Gate) (xs : List NetPair) (front parts : List Part) → length parts ≤ length (fold (λ (all : List Part) (part : Part). with_all all (next_parts gate xs part)) parts front)
+front_long : (gate : Gate) (xs : List FingerEnds) (front parts : List Part) → length parts ≤ length (fold (λ (all : List Part) (part : Part). with_all all (next_parts gate xs part)) parts front)
 front_long gate xs [] parts = omega arith
 front_long gate xs (p ∷ front) parts = omega (arith, all_long (next_parts gate xs p) parts, front_long gate xs front (with_all parts (next_parts gate xs p)))
 
 -- more than that already
-pub longer_yet : (gate : Gate) (xs : List NetPair) (front parts : List Part) (i most : ℕ) → parts ≡ next_front gate xs (take i front) → most < length parts → most < length (next_front gate xs front)
+pub longer_yet : (gate : Gate) (xs : List FingerEnds) (front parts : List Part) (i most : ℕ) → parts ≡ next_front gate xs (take i front) → most < length parts → most < length (next_front gate xs front)
 longer_yet gate xs front parts i most is more =
     let whole : next_front gate xs front ≡ fold (λ (all : List Part) (part : Part). with_all all (next_parts gate xs part)) (next_front gate xs (take i front)) (drop i front) =
     ap (next_front gate xs) (sym (take-append-drop i front)) ∙ fold-append (λ (all : List Part) (part : Part). with_all all (next_parts gate xs part)) [] (take i front) (drop i front) in
@@ -47,13 +47,13 @@ missed : (b : Bool) (i : ℕ) → (if b then Some i else None) ≡ None → b �
 missed true i h = absurd cc
 missed false i h = refl
 
-pub one_less : (y : NetPair) (left : List NetPair) (i : ℕ) → position (same_nets y) left ≡ Some i → remove left i ≡ without y left
+pub one_less : (y : FingerEnds) (left : List FingerEnds) (i : ℕ) → position (same_nets y) left ≡ Some i → remove left i ≡ without y left
 one_less y left i h =
     let at : position_or_len (same_nets y) left ≡ i = found (ltb (position_or_len (same_nets y) left) (length left)) (position_or_len (same_nets y) left) i h in
     let next : i + 1 ≡ suc i = omega arith in
     sym (ap (λ (k : ℕ). take k left ++ drop (k + 1) left) at ∙ ap (λ (k : ℕ). take i left ++ drop k left) next)
 
-pub none_less : (y : NetPair) (left : List NetPair) → position (same_nets y) left ≡ None → left ≡ without y left
+pub none_less : (y : FingerEnds) (left : List FingerEnds) → position (same_nets y) left ≡ None → left ≡ without y left
 none_less y left h =
     let at : ltb (position_or_len (same_nets y) left) (length left) ≡ false = missed (ltb (position_or_len (same_nets y) left) (length left)) (position_or_len (same_nets y) left) h in
     let past : length left ≤ position_or_len (same_nets y) left = ltb-false (position_or_len (same_nets y) left) (length left) at in

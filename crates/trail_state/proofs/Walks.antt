@@ -7,7 +7,8 @@ use Rattle.cell_num.specs.Fingers.{sum_below}
 use Rattle.cell_num.specs.declared.finger.Finger.{Finger}
 use Rattle.row_trails.specs.Counts.{size_in}
 use Rattle.row_trails.specs.Trails.{size, toggle}
-use Rattle.row_state.specs.ClassBounds.{Classes, IsEven, IsJoined, begins, breaks, closed, closed_low, closed_none, free_at, free_is, goes_on, open_at, open_le_free, trails_low}
+use Rattle.row_state.specs.ClassBounds.{Classes, IsEven, IsJoined, begins, breaks, closed, closed_low, closed_none, free_at, free_is, goes_on, open_at, trails_low}
+use Rattle.row_state.specs.ClassWalks.{open_le_free}
 use Rattle.row_state.specs.Classes.{IsLabelling}
 use Rattle.row_state.specs.ClassSizes.{joined_alike, no_finger_even}
 use Rattle.row_state.specs.ClassSums.{sum_below_mono}

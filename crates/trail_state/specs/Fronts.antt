@@ -4,7 +4,7 @@ use Rattle.std.specs.Prelude.{length, map, fold}
 use Rattle.std.specs.Cmp.Lexicographic.{pointwise}
 use Rattle.std.specs.List.{after_first, before_first, flat_map, list_any, range_with_len}
 use Rattle.trail_state.specs.declared.edge.Edge.{Edge}
-use Rattle.trail_state.specs.declared.edge.NetPair.{NetPair}
+use Rattle.trail_state.specs.declared.edge.FingerEnds.{FingerEnds}
 use Rattle.trail_state.specs.Edges.{n_edges, p_edges, pair_edges}
 use Rattle.trail_state.specs.Sorted.{inserted}
 use Rattle.trail_state.specs.declared.front.Part.{Part}
@@ -13,37 +13,37 @@ use Rattle.trail_state.specs.declared.gate.Gate.{Gate}
 abbrev pub same_edge : Edge → Edge → Bool
 same_edge d e = (d.a.0 == e.a.0) && (d.b.0 == e.b.0)
 
-abbrev pub same_nets : NetPair → NetPair → Bool
+abbrev pub same_nets : FingerEnds → FingerEnds → Bool
 same_nets x y = (x.lo == y.lo) && (x.hi == y.hi)
 
 -- all but the first with these nets
-abbrev pub without : NetPair → List NetPair → List NetPair
+abbrev pub without : FingerEnds → List FingerEnds → List FingerEnds
 without y left = before_first (same_nets y) left ++ after_first (same_nets y) left
 
 -- the part with one of the edges more, and these fingers left
-abbrev pub with_column : Part → List NetPair → List Edge → List Part
+abbrev pub with_column : Part → List FingerEnds → List Edge → List Part
 with_column part left edges = map (λ e. record { edges = inserted e part.edges; left = left }) edges
 
 -- the P finger in a column with this one of the N fingers left
-abbrev pub paired_with : NetPair → Part → NetPair → List Part
+abbrev pub paired_with : FingerEnds → Part → FingerEnds → List Part
 paired_with x part y = with_column part (without y part.left) (pair_edges x y)
 
 -- or with each of them
-abbrev pub paired : NetPair → Part → List Part
+abbrev pub paired : FingerEnds → Part → List Part
 paired x part = flat_map (paired_with x part) part.left
 
 -- or alone, where the P fingers after it are as many as the N fingers left
-abbrev pub alone : Gate → NetPair → List NetPair → Part → List Part
+abbrev pub alone : Gate → FingerEnds → List FingerEnds → Part → List Part
 alone gate x xs part =
     if leb (length part.left) (length xs) then with_column part part.left (p_edges gate.n_fill x) else []
 
 -- after the P fingers the first of the N fingers left alone
-abbrev pub n_alone : Gate → Part → List NetPair → List Part
+abbrev pub n_alone : Gate → Part → List FingerEnds → List Part
 n_alone gate part [] = []
 n_alone gate part (y ∷ ys) = with_column part ys (n_edges gate.p_fill y)
 
 -- the part with its next column in each way, where these P fingers are in none yet
-abbrev pub next_parts : Gate → List NetPair → Part → List Part
+abbrev pub next_parts : Gate → List FingerEnds → Part → List Part
 next_parts gate [] part = n_alone gate part part.left
 next_parts gate (x ∷ xs) part = paired x part ++ alone gate x xs part
 
@@ -57,7 +57,7 @@ with_new parts p = if list_any (is_same p) parts then parts else parts ++ p ∷ 
 abbrev pub with_all : List Part → List Part → List Part
 with_all parts more = fold with_new parts more
 
-abbrev pub next_front : Gate → List NetPair → List Part → List Part
+abbrev pub next_front : Gate → List FingerEnds → List Part → List Part
 next_front gate xs front = fold (λ parts part. with_all parts (next_parts gate xs part)) [] front
 
 -- no column yet

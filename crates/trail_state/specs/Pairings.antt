@@ -4,7 +4,7 @@ use Rattle.std.specs.List.{filter, range_with_len}
 use Rattle.cell_num.specs.declared.finger.Finger.{Finger}
 use Rattle.cell_num.specs.declared.finger.Fingers.{Fingers}
 use Rattle.trail_state.specs.declared.edge.Edge.{Edge}
-use Rattle.trail_state.specs.declared.edge.NetPair.{NetPair}
+use Rattle.trail_state.specs.declared.edge.FingerEnds.{FingerEnds}
 use Rattle.trail_state.specs.declared.gate.Gate.{Gate}
 use Rattle.trail_state.specs.Fronts as fronts
 use Rattle.trail_state.specs.Choices.{fingers_on}
@@ -13,7 +13,7 @@ use Rattle.trail_state.specs.Nodes.{is_net_in}
 abbrev pub HasSmallEnds : Finger → Type 0
 HasSmallEnds x = (x.lo.0 < 256) × (x.hi.0 < 256)
 
-abbrev pub nets_at : Finger → NetPair
+abbrev pub nets_at : Finger → FingerEnds
 nets_at x = record { lo = x.lo.0; hi = x.hi.0 }
 
 -- the nets that fill the empty places of a row

@@ -4,7 +4,7 @@ use Rattle.std.specs.Bool.{Decides}
 use Rattle.std.specs.Cmp.Lexicographic.{pointwise, pointwise_decides}
 use Rattle.std.proofs.lemmas.Bool.{and_from, and_parts, eq-eqb, eqb-true}
 use Rattle.trail_state.specs.declared.edge.Edge.{Edge}
-use Rattle.trail_state.specs.declared.edge.NetPair.{NetPair}
+use Rattle.trail_state.specs.declared.edge.FingerEnds.{FingerEnds}
 use Rattle.trail_state.specs.declared.edge.Node.{Node}
 use Rattle.trail_state.specs.declared.front.Part.{Part}
 use Rattle.trail_state.specs.Fronts.{is_same, same_edge, same_nets}
@@ -30,10 +30,10 @@ edge_decides d e = (
       (eq-eqb d.a.0 e.a.0 (ap (λ (x : Edge). x.a.0) same)) (eq-eqb d.b.0 e.b.0 (ap (λ (x : Edge). x.b.0) same)),
 )
 
-nets : ℕ → ℕ → NetPair
+nets : ℕ → ℕ → FingerEnds
 nets a b = record { lo = a; hi = b }
 
-pub nets_same : (x y : NetPair) → same_nets x y ≡ true → x ≡ y
+pub nets_same : (x y : FingerEnds) → same_nets x y ≡ true → x ≡ y
 unfolding nets
 nets_same x y h =
     let parts : ((x.lo == y.lo) ≡ true) × ((x.hi == y.hi) ≡ true) = and_parts (x.lo == y.lo) (x.hi == y.hi) h in
@@ -41,14 +41,14 @@ nets_same x y h =
     ap (λ v. nets v x.hi) (eqb-true x.lo y.lo parts.0) ∙ ap (λ v. nets y.lo v) (eqb-true x.hi y.hi parts.1) in
     whole
 
-pub nets_decides : (x y : NetPair) → Decides (same_nets x y) (x ≡ y)
+pub nets_decides : (x y : FingerEnds) → Decides (same_nets x y) (x ≡ y)
 nets_decides x y = (
   nets_same x y,
   λ same. and_from (x.lo == y.lo) (x.hi == y.hi)
-      (eq-eqb x.lo y.lo (ap (λ (z : NetPair). z.lo) same)) (eq-eqb x.hi y.hi (ap (λ (z : NetPair). z.hi) same)),
+      (eq-eqb x.lo y.lo (ap (λ (z : FingerEnds). z.lo) same)) (eq-eqb x.hi y.hi (ap (λ (z : FingerEnds). z.hi) same)),
 )
 
-part_of : List Edge → List NetPair → Part
+part_of : List Edge → List FingerEnds → Part
 part_of edges left = record { edges = edges; left = left }
 
 pub part_same : (p q : Part) → is_same p q ≡ true → p ≡ q

@@ -5,7 +5,7 @@ use cell_num::List;
 
 /// The nets at the ends of a finger.
 #[derive(Clone, Copy, Debug, PartialEq, Eq, Hash)]
-pub struct NetPair {
+pub struct FingerEnds {
     pub lo: u8,
     pub hi: u8,
 }

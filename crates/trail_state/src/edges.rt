@@ -3,7 +3,7 @@ ghost use Rattle.std.specs.List.{filter};
 ghost use Rattle.trail_state.specs.Edges.{edge_between, edge_of, n_edges, p_edges, pair_edges};
 ghost use Rattle.trail_state.specs.Sorted.{inserted, is_below};
 
-use crate::edge::{Choice, Edge, NetPair, Node};
+use crate::edge::{Choice, Edge, FingerEnds, Node};
 use cell_num::{List, NoMemory};
 use std::alloc::{AllocError, Global};
 
@@ -74,7 +74,7 @@ pub(crate) fn insert(alloc: Global, edge: &Edge, edges: &[Edge]) -> Result<Choic
 }
 
 /// The edges of a column of a P and an N finger: turned alike, or not.
-pub(crate) fn pair(x: NetPair, y: NetPair) -> [Edge; 2]
+pub(crate) fn pair(x: FingerEnds, y: FingerEnds) -> [Edge; 2]
     ensures { result ≡ pair_edges x y }
 {
     let (p_lo, p_hi) = (u32::from(x.lo), u32::from(x.hi));
@@ -82,7 +82,7 @@ pub(crate) fn pair(x: NetPair, y: NetPair) -> [Edge; 2]
     [edge(p_lo, n_lo, p_hi, n_hi), edge(p_lo, n_hi, p_hi, n_lo)]
 }
 
-fn add_p(all: &mut Vec<Edge>, nets: &[u32], x: NetPair, left: u32) -> Result<(), AllocError>
+fn add_p(all: &mut Vec<Edge>, nets: &[u32], x: FingerEnds, left: u32) -> Result<(), AllocError>
     requires left { left < 256 }
     requires nets { All (λ net. net < 256) nets.now }
     ensures { OnOk result (all.new.items ≡ all.old.items ++ map (λ right. edge_of x.lo left x.hi right) nets.now) }
@@ -94,7 +94,7 @@ fn add_p(all: &mut Vec<Edge>, nets: &[u32], x: NetPair, left: u32) -> Result<(),
 }
 
 /// The edges of a P finger that is alone: its empty place has each two of the nets.
-pub(crate) fn p_alone(alloc: Global, nets: &[u32], x: NetPair) -> Result<Vec<Edge>, AllocError>
+pub(crate) fn p_alone(alloc: Global, nets: &[u32], x: FingerEnds) -> Result<Vec<Edge>, AllocError>
     requires nets { All (λ net. net < 256) nets.now }
     ensures { IfOk result (λ all. all.items ≡ p_edges nets.now x) }
 {
@@ -105,7 +105,7 @@ pub(crate) fn p_alone(alloc: Global, nets: &[u32], x: NetPair) -> Result<Vec<Edg
     Ok(all)
 }
 
-fn add_n(all: &mut Vec<Edge>, nets: &[u32], y: NetPair, left: u32) -> Result<(), AllocError>
+fn add_n(all: &mut Vec<Edge>, nets: &[u32], y: FingerEnds, left: u32) -> Result<(), AllocError>
     requires left { left < 256 }
     requires nets { All (λ net. net < 256) nets.now }
     ensures { OnOk result (all.new.items ≡ all.old.items ++ map (λ right. edge_of left y.lo right y.hi) nets.now) }
@@ -117,7 +117,7 @@ fn add_n(all: &mut Vec<Edge>, nets: &[u32], y: NetPair, left: u32) -> Result<(),
 }
 
 /// The edges of an N finger that is alone: its empty place has each two of the nets.
-pub(crate) fn n_alone(alloc: Global, nets: &[u32], y: NetPair) -> Result<Vec<Edge>, AllocError>
+pub(crate) fn n_alone(alloc: Global, nets: &[u32], y: FingerEnds) -> Result<Vec<Edge>, AllocError>
     requires nets { All (λ net. net < 256) nets.now }
     ensures { IfOk result (λ all. all.items ≡ n_edges nets.now y) }
 {

@@ -5,7 +5,7 @@ ghost use Rattle.trail_state.specs.Fronts.{alone, first_front, n_alone, next_fro
 ghost use Rattle.trail_state.specs.Fronts.{same_nets, with_all, with_column, with_new, without};
 ghost use Rattle.trail_state.specs.Same.{part_decides};
 
-use crate::edge::{Edge, NetPair};
+use crate::edge::{Edge, FingerEnds};
 use crate::edges::{insert, n_alone, p_alone, pair};
 use crate::gate::Gate;
 use cell_num::{List, NoMemory};
@@ -18,7 +18,7 @@ use std::hash::{Hash, Hasher};
 #[derive(Debug, PartialEq, Eq, Drop)]
 pub struct Part {
     pub edges: List<Edge>,
-    pub left: List<NetPair>,
+    pub left: List<FingerEnds>,
 }
 
 impl Hash for Part {
@@ -48,7 +48,7 @@ fn add_column(
     alloc: Global,
     all: &mut IndexSet<Part>,
     part: &Part,
-    left: &[NetPair],
+    left: &[FingerEnds],
     edges: &[Edge],
 ) -> Result<(), NoMemory>
     ensures { OnOk result (all.new.keys ≡ with_all all.old.keys (with_column part.now left.now edges.now)) }
@@ -63,14 +63,18 @@ fn add_column(
     Ok(())
 }
 
-fn find(nets: NetPair, left: &[NetPair]) -> Option<usize>
+fn find(nets: FingerEnds, left: &[FingerEnds]) -> Option<usize>
     ensures { result ≡ position (same_nets nets) left.now }
 {
     left.iter().position(|other| nets == *other)
 }
 
 #[tactic(auto, using(crate::proofs::Parts::one_less, crate::proofs::Parts::none_less))]
-fn without(alloc: Global, nets: NetPair, left: &[NetPair]) -> Result<Vec<NetPair>, AllocError>
+fn without(
+    alloc: Global,
+    nets: FingerEnds,
+    left: &[FingerEnds],
+) -> Result<Vec<FingerEnds>, AllocError>
     ensures { IfOk result (λ rest. rest.items ≡ without nets left.now) }
 {
     let mut rest = left.to_vec(alloc)?;
@@ -84,9 +88,9 @@ fn without(alloc: Global, nets: NetPair, left: &[NetPair]) -> Result<Vec<NetPair
 fn add_pair(
     alloc: Global,
     all: &mut IndexSet<Part>,
-    x: NetPair,
+    x: FingerEnds,
     part: &Part,
-    y: NetPair,
+    y: FingerEnds,
 ) -> Result<(), NoMemory>
     ensures { OnOk result (all.new.keys ≡ with_all all.old.keys (paired_with x part.now y)) }
 {
@@ -99,7 +103,7 @@ fn add_pair(
 fn add_paired(
     alloc: Global,
     all: &mut IndexSet<Part>,
-    x: NetPair,
+    x: FingerEnds,
     part: &Part,
 ) -> Result<(), NoMemory>
     ensures { OnOk result (all.new.keys ≡ with_all all.old.keys (paired x part.now)) }
@@ -115,8 +119,8 @@ fn add_alone(
     alloc: Global,
     all: &mut IndexSet<Part>,
     gate: &Gate,
-    x: NetPair,
-    behind: &[NetPair],
+    x: FingerEnds,
+    behind: &[FingerEnds],
     part: &Part,
 ) -> Result<(), NoMemory>
     requires { All (λ net. net < 256) gate.now.n_fill }
@@ -148,7 +152,7 @@ fn add_next(
     alloc: Global,
     all: &mut IndexSet<Part>,
     gate: &Gate,
-    xs: &[NetPair],
+    xs: &[FingerEnds],
     part: &Part,
 ) -> Result<(), NoMemory>
     requires p { All (λ net. net < 256) gate.now.p_fill }
@@ -179,7 +183,7 @@ pub(crate) fn first_front(alloc: Global, gate: &Gate) -> Result<IndexSet<Part>, 
 pub(crate) fn next_front(
     alloc: Global,
     gate: &Gate,
-    xs: &[NetPair],
+    xs: &[FingerEnds],
     front: &[Part],
 ) -> Result<IndexSet<Part>, NoMemory>
     requires p { All (λ net. net < 256) gate.now.p_fill }
@@ -198,7 +202,7 @@ pub(crate) fn next_front(
 pub(crate) fn next_short(
     alloc: Global,
     gate: &Gate,
-    xs: &[NetPair],
+    xs: &[FingerEnds],
     front: &[Part],
     most: usize,
 ) -> Result<Option<IndexSet<Part>>, NoMemory>

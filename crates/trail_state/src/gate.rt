@@ -2,7 +2,7 @@ ghost use Rattle.std.specs.Prelude.{◌≡◌, ◌<◌, All, IfOk, map};
 ghost use Rattle.cell_num.specs.Fingers.{AreFingers};
 ghost use Rattle.trail_state.specs.Pairings.{HasSmallEnds, gate_of, nets_at};
 
-use crate::edge::NetPair;
+use crate::edge::FingerEnds;
 use crate::nodes::{nets_in, on_gate};
 use cell_num::{Finger, Fingers, List, NoMemory};
 use std::alloc::{AllocError, Global};
@@ -10,23 +10,23 @@ use std::alloc::{AllocError, Global};
 /// The fingers of a gate by the nets at their ends, and the nets that fill empty places of the two rows.
 #[derive(Debug, PartialEq, Drop)]
 pub struct Gate {
-    pub p: List<NetPair>,
-    pub n: List<NetPair>,
+    pub p: List<FingerEnds>,
+    pub n: List<FingerEnds>,
     pub p_fill: List<u32>,
     pub n_fill: List<u32>,
 }
 
-fn nets_at(finger: &Finger) -> NetPair
+fn nets_at(finger: &Finger) -> FingerEnds
     requires { HasSmallEnds finger.now }
     ensures { result ≡ nets_at finger.now }
 {
-    NetPair {
+    FingerEnds {
         lo: finger.lo.0 as u8,
         hi: finger.hi.0 as u8,
     }
 }
 
-fn all_nets(alloc: Global, fingers: &[Finger]) -> Result<Vec<NetPair>, AllocError>
+fn all_nets(alloc: Global, fingers: &[Finger]) -> Result<Vec<FingerEnds>, AllocError>
     requires { All HasSmallEnds fingers.now }
     ensures { IfOk result (λ all. all.items ≡ map nets_at fingers.now) }
 {

@@ -2,7 +2,7 @@ ghost use Rattle.std.specs.Prelude.{◌≡◌, ◌<◌, All, IfOk, drop};
 ghost use Rattle.std.specs.List.{list_any, range_with_len};
 ghost use Rattle.trail_state.specs.Fronts.{choices_of, columns_in, edges_of, front_at, has_long_front, is_long_at};
 
-use crate::edge::{Choice, NetPair};
+use crate::edge::{Choice, FingerEnds};
 use crate::front::{Part, first_front, next_front, next_short};
 use crate::gate::Gate;
 use cell_num::{List, NoMemory};
@@ -16,7 +16,7 @@ fn columns(gate: &Gate) -> usize
 }
 
 // The P fingers that are in none of the first columns.
-fn behind(gate: &Gate, at: usize) -> &[NetPair]
+fn behind(gate: &Gate, at: usize) -> &[FingerEnds]
     ensures { result.now ≡ drop at gate.now.p }
 {
     gate.p.as_slice().get(at..).unwrap_or(&[])
