@@ -1,0 +1,219 @@
+-- What a visit shows of its lemmas.
+use Rattle.std.proofs.Common.{ℕ, Option, Some, None, IfSome, ◌≡◌, ◌+◌, ◌-◌, ◌≤◌, ◌++◌, List, [], ◌∷◌, length, get_or, take, take_all, inl, inr, refl, sym, ap, subst, arith, All, Any, Contains, ◌∙◌, append_assoc, append-nil}
+use Rattle.std.specs.Prelude.{IfNone}
+use Rattle.std.proofs.lemmas.Bool.{cases_lt}
+use Rattle.std.proofs.Math.Seq.{get_or-append_seam, take-append_seam}
+use Rattle.std.proofs.lemmas.List.{get_or_append_left, get_or_default, length-append, take-append-le}
+use Rattle.std.proofs.lemmas.List.Elements.{All-append, All-contains, All-nil, All-weaker, Contains-append_right}
+use Rattle.std.proofs.lemmas.List.Quantifiers.{all_pairs_push}
+use Rattle.cell_num.specs.declared.finger.Row.{Row}
+use Rattle.cell_num.specs.declared.net.Pins.{Pins}
+use Rattle.cell_num.proofs.Lists.{all_from_contains, all_imply, all_one, contains_here}
+use Rattle.cell_num.proofs.Pairs.{Some', any_append_left, any_at, pairs_none, some_from_any}
+use Rattle.row_state.specs.declared.candidate.Candidate.{Candidate}
+use Rattle.row_state.specs.declared.kind.Kinds.{Kinds}
+use Rattle.row_state.specs.declared.state.State.{State}
+use Rattle.row_state.specs.declared.step.Step.{Step}
+use Rattle.row_state.specs.Candidates.{AreCandidates}
+use Rattle.row_state.specs.Completion.{cost_of}
+use Rattle.row_state.specs.Start.{AreSomeKinds, HasFingers, IsState}
+use Rattle.row_state.specs.Steps.{IsPossible, column_of, state_after}
+use Rattle.row_cycles.specs.declared.above.NetAbove.{NetAbove}
+use Rattle.cycle_search.specs.declared.ahead.Ahead.{Ahead}
+use Rattle.row_cycles.specs.declared.lemma.CycleLemma.{CycleLemma}
+use Rattle.cycle_search.specs.declared.progress.Progress.{Progress}
+use Rattle.cycle_search.specs.declared.search.WiredRow.{WiredRow}
+use Rattle.cycle_search.specs.declared.search.WiredRow.TheVariants as ended
+use Rattle.row_cycles.specs.Above.{Follows, HasCycle, HasNets, above_end, above_step}
+use Rattle.row_cycles.specs.Certificate.{AreJustified, Covers, IsJustified, IsRefuted}
+use Rattle.row_cycles.specs.Fits.{CycleFits, IsWithin}
+use Rattle.row_cycles.specs.Noted.{AreNoted}
+use Rattle.cycle_search.specs.Search.{AreKept, HasReason, lemmas_in}
+use Rattle.row_cycles.specs.Steps.{StepIsRefuted}
+use Rattle.cycle_search.specs.Visit.{AreSame, IsAhead, IsGrown, IsKept, IsOpen, lemma_at}
+use Rattle.row_cycles.proofs.Nets.{few_nets}
+use Rattle.row_cycles.proofs.Refuted.{steps_all}
+use Rattle.row_cycles.proofs.Paths.{cycle_beside, cycle_through, follows_beside, follows_through, one_above}
+
+-- the column leaves the lemma of these pairs justified
+abbrev pub StepFails : (Row → State → Kinds → ℕ) → Pins → Kinds → List CycleLemma → State → ℕ → List NetAbove → Candidate → Type 0
+StepFails value pins k lemmas s allowed above c = StepIsRefuted value pins k lemmas (lemma_at s allowed above) c.step
+
+refuted_more : (value : Row → State → Kinds → ℕ) (k : Kinds) (xs ys more : List CycleLemma) (s : State) (gaps : ℕ) (above : List NetAbove) → ys ≡ xs ++ more → IsRefuted value k xs s gaps above → IsRefuted value k ys s gaps above
+refuted_more value k xs ys more s gaps above is (inl d) = inl d
+refuted_more value k xs ys more s gaps above is (inr (inl cycle)) = inr (inl cycle)
+refuted_more value k xs ys more s gaps above is (inr (inr any)) = inr (inr (subst (Any (Covers s gaps above)) (sym is) (any_append_left (Covers s gaps above) xs more any)))
+
+pub steps_fail_more : (value : Row → State → Kinds → ℕ) (pins : Pins) (k : Kinds) (xs ys more : List CycleLemma) (s : State) (allowed : ℕ) (above : List NetAbove) (items : List Candidate) → ys ≡ xs ++ more → All (StepFails value pins k xs s allowed above) items → All (StepFails value pins k ys s allowed above) items
+steps_fail_more value pins k xs ys more s allowed above items is all =
+    All-weaker (StepFails value pins k xs s allowed above) (StepFails value pins k ys s allowed above) (λ c h left possible sum.
+    refuted_more value k xs ys more (state_after k s c.step) left (above ++ above_step pins k s c.step) is (h left possible sum)) items all
+
+same_left : (cost left other gaps : ℕ) → cost + left ≡ gaps → cost + other ≡ gaps → left ≡ other
+same_left cost left other gaps e f = omega (arith, e, f)
+
+-- the visit of the state after the column has kept a lemma on it
+pub ahead_fails : (value : Row → State → Kinds → ℕ) (pins : Pins) (k : Kinds) (lemmas : List CycleLemma) (s : State) (allowed : ℕ) (above : List NetAbove) (step : Step) (ahead : Ahead) → IsAhead pins k s above allowed step ahead → Any (Covers ahead.state.state ahead.left ahead.above) lemmas → StepIsRefuted value pins k lemmas (lemma_at s allowed above) step
+ahead_fails value pins k lemmas s allowed above step ahead a any left possible sum =
+    inr (inr (subst (λ n. Any (Covers (state_after k s step) n (above ++ above_step pins k s step)) lemmas) (same_left (cost_of s (column_of k step)) ahead.left left allowed a.left sum)
+    (subst (λ z. Any (Covers z ahead.left (above ++ above_step pins k s step)) lemmas) a.is.state
+    (subst (λ ps. Any (Covers ahead.state.state ahead.left ps) lemmas) a.is.onward any))))
+
+-- where each next column fails and the end does, the lemma of these pairs is justified
+pub all_justified : (value : Row → State → Kinds → ℕ) (pins : Pins) (k : Kinds) (lemmas : List CycleLemma) (s : State) (allowed : ℕ) (above : List NetAbove) (all : List Candidate) (i : ℕ) → AreCandidates k all → IsState k s → All (HasNets k.nets) above → length all ≤ i → All (StepFails value pins k lemmas s allowed above) (take i all) → ((HasFingers k s → ⊥) → HasCycle (above ++ above_end pins s)) → IsJustified value pins k lemmas (lemma_at s allowed above)
+all_justified value pins k lemmas s allowed above all i are state nets past fails ends =
+    let each : All (StepFails value pins k lemmas s allowed above) all = subst (All (StepFails value pins k lemmas s allowed above)) (take_all i all past) fails in
+    record {
+      state = state;
+      nets = nets;
+      holds = inr (record {
+        steps = λ step left possible sum. steps_all value pins k lemmas (lemma_at s allowed above) all state are each step left possible sum;
+        ends = ends;
+      });
+    }
+
+refuted_follow : (value : Row → State → Kinds → ℕ) (k : Kinds) (lemmas : List CycleLemma) (s : State) (gaps : ℕ) (above other : List NetAbove) → ((a : NetAbove) → Contains above a → Follows other a) → IsRefuted value k lemmas s gaps above → IsRefuted value k lemmas s gaps other
+refuted_follow value k lemmas s gaps above other each (inl d) = inl d
+refuted_follow value k lemmas s gaps above other each (inr (inl cycle)) = inr (inl (cycle_through above other each cycle))
+refuted_follow value k lemmas s gaps above other each (inr (inr any)) =
+    let found : Some' (Covers s gaps above) lemmas = some_from_any (Covers s gaps above) lemmas any in
+    inr (inr (any_at (Covers s gaps other) lemmas found.it found.there (record {
+      state = found.holds.state;
+      enough = found.holds.enough;
+      follow = follows_through above other found.it.above each found.holds.follow;
+    })))
+
+follows_same : (above other : List NetAbove) → All (Contains other) above → All (Follows other) above
+follows_same above other h = all_imply (Contains other) (Follows other) above (λ a there. one_above other a there) h
+
+-- the same pairs in another order are justified, too
+pub justified_same : (value : Row → State → Kinds → ℕ) (pins : Pins) (k : Kinds) (lemmas : List CycleLemma) (s : State) (gaps : ℕ) (above : List NetAbove) (lemma : CycleLemma) → IsJustified value pins k lemmas (lemma_at s gaps above) → lemma ≡ lemma_at s gaps lemma.above → AreSame above lemma.above → All (HasNets k.nets) lemma.above → IsJustified value pins k lemmas lemma
+justified_same value pins k lemmas s gaps above lemma h is same nets =
+    let follow : All (Follows lemma.above) above = follows_same above lemma.above same.to in
+    subst (IsJustified value pins k lemmas) (sym is) (record {
+      state = h.state;
+      nets = nets;
+      holds = elim h.holds [
+        | inl d ↦ inl d
+        | inr b ↦ inr (record {
+          steps = λ step left possible sum. refuted_follow value k lemmas (state_after k s step) left (above ++ above_step pins k s step) (lemma.above ++ above_step pins k s step) (follows_beside above lemma.above (above_step pins k s step) follow) (b.steps step left possible sum);
+          ends = λ none. cycle_beside above lemma.above (above_end pins s) follow (b.ends none);
+        })
+      ];
+    })
+
+-- pairs that are the same as some that follow
+pub follow_same : (above some other : List NetAbove) → AreSame some other → All (Follows above) some → All (Follows above) other
+follow_same above some other same h = all_imply (Contains some) (Follows above) other (λ a there. All-contains (Follows above) some a h there) same.from
+
+pub follow_self : (above other : List NetAbove) → AreSame above other → All (Follows above) other
+follow_self above other same = follows_same other above same.from
+
+-- a kept lemma that is about the pairs of another is about those from which they follow
+pub covers_follow : (lemmas : List CycleLemma) (s : State) (gaps : ℕ) (above : List NetAbove) (lemma : CycleLemma) → lemma ≡ lemma_at s gaps lemma.above → All (Follows above) lemma.above → Any (Covers s lemma.gaps lemma.above) lemmas → Any (Covers s gaps above) lemmas
+covers_follow lemmas s gaps above lemma is follow any =
+    let found : Some' (Covers s lemma.gaps lemma.above) lemmas = some_from_any (Covers s lemma.gaps lemma.above) lemmas any in
+    any_at (Covers s gaps above) lemmas found.it found.there (record {
+      state = found.holds.state;
+      enough = omega (arith, found.holds.enough, ap (λ (l : CycleLemma). l.gaps) is);
+      follow = follows_through lemma.above above found.it.above (λ a there. All-contains (Follows above) lemma.above a follow there) found.holds.follow;
+    })
+
+pub same_nets : (nets : ℕ) (above other : List NetAbove) → AreSame above other → All (HasNets nets) above → All (HasNets nets) other
+same_nets nets above other same all = all_imply (Contains above) (HasNets nets) other (λ a there. All-contains (HasNets nets) above a all there) same.from
+
+pub few_of : (k : Kinds) (above slice : List NetAbove) → AreSomeKinds k → All (HasNets k.nets) above → slice ≡ above → All (HasNets 256) slice
+few_of k above slice some all is = subst (All (HasNets 256)) (sym is) (few_nets k above some all)
+
+-- ---- the state after a column
+
+refuted_left : (value : Row → State → Kinds → ℕ) (pins : Pins) (k : Kinds) (lemmas : List CycleLemma) (s : State) (above : List NetAbove) (allowed cost : ℕ) (step : Step) → cost ≡ cost_of s (column_of k step) → cost ≤ allowed → IsRefuted value k lemmas (state_after k s step) (allowed - cost) (above ++ above_step pins k s step) → StepIsRefuted value pins k lemmas (lemma_at s allowed above) step
+refuted_left value pins k lemmas s above allowed cost step is low h left possible sum =
+    let same : allowed - cost ≡ left = omega (arith, is, low, sum) in
+    subst (λ n. IsRefuted value k lemmas (state_after k s step) n (above ++ above_step pins k s step)) same h
+
+pub none_left : (value : Row → State → Kinds → ℕ) (pins : Pins) (k : Kinds) (lemmas : List CycleLemma) (s : State) (above : List NetAbove) (allowed cost : ℕ) (step : Step) (o : Option Ahead) → cost ≡ cost_of s (column_of k step) → cost ≤ allowed → IfNone o (IsRefuted value k lemmas (state_after k s step) (allowed - cost) (above ++ above_step pins k s step)) → IfNone o (StepIsRefuted value pins k lemmas (lemma_at s allowed above) step)
+none_left value pins k lemmas s above allowed cost step None is low h = refuted_left value pins k lemmas s above allowed cost step is low h
+none_left value pins k lemmas s above allowed cost step (Some ahead) is low h = tt
+
+pub ahead_some : (pins : Pins) (k : Kinds) (s : State) (above : List NetAbove) (allowed cost : ℕ) (step : Step) (o : Option Ahead) → IsPossible k s step → cost ≡ cost_of s (column_of k step) → cost ≤ allowed → IfSome o (IsOpen pins k s above (allowed - cost) step) → IfSome o (IsAhead pins k s above allowed step)
+ahead_some pins k s above allowed cost step None possible is low h = tt
+ahead_some pins k s above allowed cost step (Some ahead) possible is low h = record {
+  possible = possible;
+  left = omega (arith, is, low, h.gaps);
+  is = record { numbered = h.numbered; state = h.state; gaps = refl; onward = h.onward; nets = h.nets; none = h.none };
+}
+
+-- ---- one lemma more
+
+justified_push : (value : Row → State → Kinds → ℕ) (pins : Pins) (k : Kinds) (xs : List CycleLemma) (x : CycleLemma) → AreJustified value pins k xs → IsJustified value pins k xs x → AreJustified value pins k (xs ++ x ∷ [])
+justified_push value pins k xs x all here i d within =
+    elim (cases_lt i (length xs)) [
+      | inl less ↦
+          let e : take i (xs ++ x ∷ []) ≡ take i xs = take-append-le i xs (x ∷ []) (omega arith) in
+          let f : get_or (xs ++ x ∷ []) i d ≡ get_or xs i d = get_or_append_left xs (x ∷ []) d i less in
+          subst (λ y. IsJustified value pins k (take i (xs ++ x ∷ [])) y) (sym f) (subst (λ ys. IsJustified value pins k ys (get_or xs i d)) (sym e) (all i d less))
+      | inr more ↦
+          let at : length xs ≡ i = omega (arith, length-append xs (x ∷ []), within) in
+          subst (λ n. IsJustified value pins k (take n (xs ++ x ∷ [])) (get_or (xs ++ x ∷ []) n d)) at
+          (subst (λ y. IsJustified value pins k (take (length xs) (xs ++ x ∷ [])) y) (sym (get_or-append_seam xs x [] d)) (subst (λ ys. IsJustified value pins k ys x) (sym (take-append_seam xs (x ∷ []))) here))
+    ]
+
+abbrev pub Differ : CycleLemma → CycleLemma → Type 0
+Differ earlier lemma = Covers lemma.state lemma.gaps lemma.above earlier → ⊥
+
+-- a justified lemma that follows from no earlier one
+pub kept_push : (value : Row → State → Kinds → ℕ) (pins : Pins) (k : Kinds) (gaps : ℕ) (xs ys : List CycleLemma) (x : CycleLemma) (s : State) → ys ≡ xs ++ x ∷ [] → x.state ≡ s → AreKept value pins k gaps xs → IsJustified value pins k xs x → IsWithin k gaps x → (Any (Covers s x.gaps x.above) xs → ⊥) → AreKept value pins k gaps ys
+kept_push value pins k gaps xs ys x s is state kept here within none = subst (AreKept value pins k gaps) (sym is) (record {
+  justified = justified_push value pins k xs x kept.justified here;
+  own = all_pairs_push Differ xs x kept.own (λ i d less covers.
+      none (subst (λ z. Any (Covers z x.gaps x.above) xs) state (any_at (Covers x.state x.gaps x.above) xs (get_or xs i d) (i, less, get_or_default xs i (get_or xs i d) d less) covers)));
+  within = All-append (IsWithin k gaps) xs (x ∷ []) kept.within (all_one (IsWithin k gaps) x within);
+})
+
+pub push_covers : (k : Kinds) (xs ys : List CycleLemma) (x : CycleLemma) (s : State) → ys ≡ xs ++ x ∷ [] → x.state ≡ s → Any (Covers s x.gaps x.above) ys
+push_covers k xs ys x s is state =
+    any_at (Covers s x.gaps x.above) ys x (subst (λ zs. Contains zs x) (sym is) (Contains-append_right xs (x ∷ []) x (contains_here x [])))
+    (record { state = state; enough = omega arith; follow = follow_self x.above x.above (record { to = here; from = here }) })
+  where
+    here : All (Contains x.above) x.above
+    here = all_from_contains (Contains x.above) x.above (λ a there. there)
+
+-- ---- lemmas grow
+
+pub grown_none : (p : Progress) → IsGrown p p
+grown_none p = record { more = []; is = sym (append-nil p.lemmas) }
+
+pub grown_same : (p q : Progress) → q.lemmas ≡ p.lemmas → IsGrown p q
+grown_same p q same = record { more = []; is = same ∙ sym (append-nil p.lemmas) }
+
+pub grown_push : (p q : Progress) (x : CycleLemma) → q.lemmas ≡ p.lemmas ++ x ∷ [] → IsGrown p q
+grown_push p q x is = record { more = x ∷ []; is = is }
+
+pub grown_on : (p q r : Progress) → IsGrown p q → IsGrown q r → IsGrown p r
+grown_on p q r g h = record {
+  more = g.more ++ h.more;
+  is = h.is ∙ ap (λ xs. xs ++ h.more) g.is ∙ append_assoc p.lemmas g.more h.more;
+}
+
+-- ---- at the start
+
+pub no_pairs : (nets : ℕ) (above : List NetAbove) → above ≡ [] → All (HasNets nets) above
+no_pairs nets above none = subst (All (HasNets nets)) (sym none) (All-nil (HasNets nets))
+
+pub start_kept : (value : Row → State → Kinds → ℕ) (pins : Pins) (k : Kinds) (gaps budget : ℕ) (p : Progress) → p.lemmas ≡ [] → AreNoted k p.lemmas p.places → IsKept value pins k gaps budget p
+start_kept value pins k gaps budget p none noted = record {
+  kept = subst (AreKept value pins k gaps) (sym none) (record {
+    justified = λ i d within. absurd (omega (arith, within));
+    own = pairs_none Differ;
+    within = All-nil (IsWithin k gaps);
+  });
+  few = omega (arith, ap length none);
+  noted = noted;
+}
+
+-- lemmas on no more than 63 gaps fit into texts
+pub fit_texts : (value : Row → State → Kinds → ℕ) (pins : Pins) (k : Kinds) (gaps budget : ℕ) (r : WiredRow) → gaps ≤ 63 → HasReason value pins k gaps budget r → All (CycleFits k) (lemmas_in r)
+fit_texts value pins k gaps budget (ended.Found row) few h = All-nil (CycleFits k)
+fit_texts value pins k gaps budget (ended.None lemmas) few h = all_imply (IsWithin k gaps) (CycleFits k) lemmas (λ lemma w. record { state = w.state; gaps = omega (arith, w.gaps, few); nets = w.nets; order = w.order }) h.0.within
+fit_texts value pins k gaps budget ended.Spent few h = All-nil (CycleFits k)

@@ -1,0 +1,4 @@
+-- What contracts of public calls cite.
+pub mod Search
+-- What inner contracts and proofs alone cite.
+pub mod Visit

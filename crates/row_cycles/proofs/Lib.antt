@@ -1,0 +1,12 @@
+pub mod After
+pub mod Certified
+pub mod Found
+pub mod Legal
+pub mod Lemmas
+pub mod Loops
+pub mod Nets
+pub mod Noted
+pub mod Pairs
+pub mod Paths
+pub mod Refuted
+pub mod Wired

@@ -1,0 +1,22 @@
+use Rattle.std.proofs.Common.{All, subst}
+use Rattle.std.proofs.lemmas.List.Elements.{All-more}
+use Rattle.row_state.specs.declared.candidate.Candidate.{Candidate}
+use Rattle.row_state.specs.Start.{IsState}
+use Rattle.row_cycles.specs.Steps.{StepIsRefuted}
+use Rattle.row_cycles.proofs.Loops.{all_end, no_from, not_both, yes_from}
+use Rattle.row_cycles.proofs.Refuted.{steps_all}
+use Rattle.row_cycles.proofs.justified.steps_are_refuted.Goals as goal
+
+pub returns-then-not-branch : goal.returns-then-not-branch
+returns-then-not-branch g c = no_from (λ all. not_both _ (c.in_ok-step_is_refuted.ensures.1 (all _)) c.if-not-branch.true)
+
+pub loop-next-preserved : goal.loop-next-preserved
+loop-next-preserved g c =
+    All-more (λ (x : Candidate). StepIsRefuted (g.B.RowBound.value c.args.grounds.now.bound.now) c.args.grounds.now.pins.now c.args.grounds.now.kinds.now c.args.earlier.now.lemmas.now c.args.lemma.now x.step) c.as_slice-next-items.result.now c.loop-next.next-index _ c.loop-next-test.true c.loop-next.invariant (c.in_ok-step_is_refuted.ensures.0 c.if-not-branch.false)
+
+pub returns : goal.returns
+returns g c =
+    yes_from (steps_all (g.B.RowBound.value c.args.grounds.now.bound.now) c.args.grounds.now.pins.now c.args.grounds.now.kinds.now c.args.earlier.now.lemmas.now c.args.lemma.now c.args.grounds.now.candidates.now
+    (subst (IsState c.args.grounds.now.kinds.now) c.requires.state c.requires.numbered.valid) c.requires.candidates
+    (subst (All (λ (x : Candidate). StepIsRefuted (g.B.RowBound.value c.args.grounds.now.bound.now) c.args.grounds.now.pins.now c.args.grounds.now.kinds.now c.args.earlier.now.lemmas.now c.args.lemma.now x.step)) c.as_slice-next-items.ensures
+    (all_end (λ (x : Candidate). StepIsRefuted (g.B.RowBound.value c.args.grounds.now.bound.now) c.args.grounds.now.pins.now c.args.grounds.now.kinds.now c.args.earlier.now.lemmas.now c.args.lemma.now x.step) c.as_slice-next-items.result.now c.loop-next.next-index c.loop-next-test.false c.loop-next.invariant)))
