@@ -81,7 +81,7 @@ all_more : (c d : ℕ) (ws : List (List ℕ)) → d ≤ c → All (IsAbove c) ws
 all_more c d [] l h = All-nil (IsAbove d)
 all_more c d (w ∷ ws) l h = All-cons (IsAbove d) w ws (above_more c d w l (All-head (IsAbove c) w ws h)) (all_more c d ws l (All-tail (IsAbove c) w ws h))
 
-counts_above : (counts : List ℕ) → IsAbove 32 (counts_text counts)
+pub counts_above : (counts : List ℕ) → IsAbove 32 (counts_text counts)
 counts_above [] = by_test 32 (codes "-") refl
 counts_above (c ∷ cs) = joined_above 44 32 (map decimal (c ∷ cs)) (omega arith) (all_more 47 32 (map decimal (c ∷ cs)) (omega arith) (numbers_above (c ∷ cs)))
 
@@ -131,7 +131,7 @@ end_again : (nets : ℕ) (end : Option NetNo) → nets ≤ 256 → IfSome end (�
 end_again nets None few h = refl
 end_again nets (Some v) few h = rw (no_dash v.0, is_below nets (decimal v.0) v.0 refl h (omega (arith, few))) refl
 
-end_above : (end : Option NetNo) → IsAbove 32 (end_text end)
+pub end_above : (end : Option NetNo) → IsAbove 32 (end_text end)
 end_above None = by_test 32 (codes "-") refl
 end_above (Some v) = above_more 47 32 (decimal v.0) (omega arith) (above_decimal v.0)
 
@@ -145,7 +145,7 @@ rule_above by.P = by_test 32 (codes "P") refl
 rule_above by.N = by_test 32 (codes "N") refl
 rule_above by.Branch = by_test 32 (codes "B") refl
 
-state_again : (k : Kinds) (state : State) → AreSomeKinds k → IsState k state → state_in k (counts_text state.p_left) (counts_text state.n_left) (end_text state.p_end) (end_text state.n_end) ≡ Some state
+pub state_again : (k : Kinds) (state : State) → AreSomeKinds k → IsState k state → state_in k (counts_text state.p_left) (counts_text state.n_left) (end_text state.p_end) (end_text state.n_end) ≡ Some state
 state_again k state some h =
     rw (
       counts_again k.p state.p_left (few_each k.p (λ gate. (gates_few k gate some).0)) h.p_kinds h.p_counts,

@@ -10,6 +10,7 @@ use Rattle.bound_log.specs.declared.fault.LogFault.TheVariants as fault
 use Rattle.bound_log.specs.declared.log.Lemma.{Lemma}
 use Rattle.bound_log.specs.declared.log.LogStep.{LogStep}
 use Rattle.bound_log.specs.declared.log.Log.{Log}
+use Rattle.bound_log.specs.declared.log.Ending.TheVariants as ending
 use Rattle.bound_log.specs.declared.log.Entry.TheVariants as entry
 use Rattle.bound_log.specs.Line.{entry_in, column_in}
 use Rattle.bound_log.specs.Reading.{columns_at, end_at, log_at}
@@ -72,26 +73,26 @@ unfolding log_at
 log_more version k n lines rest front all line later after lemma h is same some =
     rw (sym same) (sym (one_lemma front lemma (log_at version k (n + 1) later rest)) ∙ (sym (rw (sym some) refl) ∙ (ap (λ ls. with_lemmas front (log_at version k n ls rest)) (sym is) ∙ h)))
 
-log_row : (version : ℕ) (k : Kinds) (n : ℕ) (lines : List (List ℕ)) (rest : List ℕ) (front : List Lemma) (all : Result Log LogFault) (line : List ℕ) (later : List (List ℕ)) (gaps : ℕ) → with_lemmas front (log_at version k n lines rest) ≡ all → lines ≡ line ∷ later → Some (entry.Gaps gaps) ≡ entry_in k (words_in line) → with_lemmas front (columns_at k (n + 1) later rest >>= λ steps. Ok (record { version = version; lemmas = []; best = Some (record { gaps = gaps; steps = steps }) })) ≡ all
+log_row : (version : ℕ) (k : Kinds) (n : ℕ) (lines : List (List ℕ)) (rest : List ℕ) (front : List Lemma) (all : Result Log LogFault) (line : List ℕ) (later : List (List ℕ)) (gaps : ℕ) → with_lemmas front (log_at version k n lines rest) ≡ all → lines ≡ line ∷ later → Some (entry.Ending (ending.Gaps gaps)) ≡ entry_in k (words_in line) → with_lemmas front (columns_at k (n + 1) later rest >>= λ steps. Ok (record { version = version; lemmas = []; best = Some (record { gaps = gaps; steps = steps }) })) ≡ all
 unfolding log_at
 log_row version k n lines rest front all line later gaps h is some = sym (rw (sym some) refl) ∙ (ap (λ ls. with_lemmas front (log_at version k n ls rest)) (sym is) ∙ h)
 
-pub log_listed : (version : ℕ) (k : Kinds) (n : ℕ) (lines : List (List ℕ)) (rest : List ℕ) (front : List Lemma) (all : Result Log LogFault) (line : List ℕ) (later : List (List ℕ)) (after : List ℕ) (gaps : ℕ) (steps : List LogStep) → with_lemmas front (log_at version k n lines rest) ≡ all → lines ≡ line ∷ later → rest ≡ after → Some (entry.Gaps gaps) ≡ entry_in k (words_in line) → columns_at k (n + 1) later after ≡ Ok steps → all ≡ Ok (record { version = version; lemmas = front; best = Some (record { gaps = gaps; steps = steps }) })
+pub log_listed : (version : ℕ) (k : Kinds) (n : ℕ) (lines : List (List ℕ)) (rest : List ℕ) (front : List Lemma) (all : Result Log LogFault) (line : List ℕ) (later : List (List ℕ)) (after : List ℕ) (gaps : ℕ) (steps : List LogStep) → with_lemmas front (log_at version k n lines rest) ≡ all → lines ≡ line ∷ later → rest ≡ after → Some (entry.Ending (ending.Gaps gaps)) ≡ entry_in k (words_in line) → columns_at k (n + 1) later after ≡ Ok steps → all ≡ Ok (record { version = version; lemmas = front; best = Some (record { gaps = gaps; steps = steps }) })
 log_listed version k n lines rest front all line later after gaps steps h is same some read =
     sym (log_row version k n lines rest front all line later gaps h is some) ∙ rw (same, read) (ap (λ ls. Ok (record { version = version; lemmas = ls; best = Some (record { gaps = gaps; steps = steps }) })) (append-nil front))
 
-pub log_unlisted : (version : ℕ) (k : Kinds) (n : ℕ) (lines : List (List ℕ)) (rest : List ℕ) (front : List Lemma) (all : Result Log LogFault) (line : List ℕ) (later : List (List ℕ)) (after : List ℕ) (gaps : ℕ) (f : LogFault) → with_lemmas front (log_at version k n lines rest) ≡ all → lines ≡ line ∷ later → rest ≡ after → Some (entry.Gaps gaps) ≡ entry_in k (words_in line) → columns_at k (n + 1) later after ≡ Err f → all ≡ Err f
+pub log_unlisted : (version : ℕ) (k : Kinds) (n : ℕ) (lines : List (List ℕ)) (rest : List ℕ) (front : List Lemma) (all : Result Log LogFault) (line : List ℕ) (later : List (List ℕ)) (after : List ℕ) (gaps : ℕ) (f : LogFault) → with_lemmas front (log_at version k n lines rest) ≡ all → lines ≡ line ∷ later → rest ≡ after → Some (entry.Ending (ending.Gaps gaps)) ≡ entry_in k (words_in line) → columns_at k (n + 1) later after ≡ Err f → all ≡ Err f
 log_unlisted version k n lines rest front all line later after gaps f h is same some read =
     sym (log_row version k n lines rest front all line later gaps h is some) ∙ rw (same, read) refl
 
-log_without : (version : ℕ) (k : Kinds) (n : ℕ) (lines : List (List ℕ)) (rest : List ℕ) (front : List Lemma) (all : Result Log LogFault) (line : List ℕ) (later : List (List ℕ)) → with_lemmas front (log_at version k n lines rest) ≡ all → lines ≡ line ∷ later → Some entry.Open ≡ entry_in k (words_in line) → with_lemmas front (end_at (n + 1) later rest >>= λ _. Ok (record { version = version; lemmas = []; best = None })) ≡ all
+log_without : (version : ℕ) (k : Kinds) (n : ℕ) (lines : List (List ℕ)) (rest : List ℕ) (front : List Lemma) (all : Result Log LogFault) (line : List ℕ) (later : List (List ℕ)) → with_lemmas front (log_at version k n lines rest) ≡ all → lines ≡ line ∷ later → Some (entry.Ending ending.Open) ≡ entry_in k (words_in line) → with_lemmas front (end_at (n + 1) later rest >>= λ _. Ok (record { version = version; lemmas = []; best = None })) ≡ all
 unfolding log_at
 log_without version k n lines rest front all line later h is some = sym (rw (sym some) refl) ∙ (ap (λ ls. with_lemmas front (log_at version k n ls rest)) (sym is) ∙ h)
 
-pub log_ended : (version : ℕ) (k : Kinds) (n : ℕ) (lines : List (List ℕ)) (rest : List ℕ) (front : List Lemma) (all : Result Log LogFault) (line : List ℕ) (later : List (List ℕ)) (after : List ℕ) → with_lemmas front (log_at version k n lines rest) ≡ all → lines ≡ line ∷ later → rest ≡ after → Some entry.Open ≡ entry_in k (words_in line) → Ok tt ≡ end_at (n + 1) later after → all ≡ Ok (record { version = version; lemmas = front; best = None })
+pub log_ended : (version : ℕ) (k : Kinds) (n : ℕ) (lines : List (List ℕ)) (rest : List ℕ) (front : List Lemma) (all : Result Log LogFault) (line : List ℕ) (later : List (List ℕ)) (after : List ℕ) → with_lemmas front (log_at version k n lines rest) ≡ all → lines ≡ line ∷ later → rest ≡ after → Some (entry.Ending ending.Open) ≡ entry_in k (words_in line) → Ok tt ≡ end_at (n + 1) later after → all ≡ Ok (record { version = version; lemmas = front; best = None })
 log_ended version k n lines rest front all line later after h is same some read =
     sym (log_without version k n lines rest front all line later h is some) ∙ rw (same, sym read) (ap (λ ls. Ok (record { version = version; lemmas = ls; best = None })) (append-nil front))
 
-pub log_unended : (version : ℕ) (k : Kinds) (n : ℕ) (lines : List (List ℕ)) (rest : List ℕ) (front : List Lemma) (all : Result Log LogFault) (line : List ℕ) (later : List (List ℕ)) (after : List ℕ) (f : LogFault) → with_lemmas front (log_at version k n lines rest) ≡ all → lines ≡ line ∷ later → rest ≡ after → Some entry.Open ≡ entry_in k (words_in line) → Err f ≡ end_at (n + 1) later after → all ≡ Err f
+pub log_unended : (version : ℕ) (k : Kinds) (n : ℕ) (lines : List (List ℕ)) (rest : List ℕ) (front : List Lemma) (all : Result Log LogFault) (line : List ℕ) (later : List (List ℕ)) (after : List ℕ) (f : LogFault) → with_lemmas front (log_at version k n lines rest) ≡ all → lines ≡ line ∷ later → rest ≡ after → Some (entry.Ending ending.Open) ≡ entry_in k (words_in line) → Err f ≡ end_at (n + 1) later after → all ≡ Err f
 log_unended version k n lines rest front all line later after f h is same some read =
     sym (log_without version k n lines rest front all line later h is some) ∙ rw (same, sym read) refl

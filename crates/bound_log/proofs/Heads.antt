@@ -12,6 +12,7 @@ use Rattle.bound_log.specs.declared.item.LogPlace.{LogPlace}
 use Rattle.bound_log.specs.declared.item.LogPlace.TheVariants as place
 use Rattle.bound_log.specs.declared.log.LogStep.{LogStep}
 use Rattle.bound_log.specs.declared.log.Entry.{Entry}
+use Rattle.bound_log.specs.declared.log.Ending.TheVariants as ending
 use Rattle.bound_log.specs.declared.log.Entry.TheVariants as entry
 use Rattle.bound_log.specs.declared.said.Said.{Said}
 use Rattle.bound_log.specs.declared.log.Lemma.{Lemma}
@@ -43,8 +44,8 @@ entry_fits : (k : Kinds) (words : List (List ℕ)) (o : Option Entry) (f : LogFa
 entry_fits k words None f said some e h = not_said k f said h
 entry_fits k words (Some (entry.Lemma lemma)) f said some e h =
     said_fits k (entry_said (entry.Lemma lemma)) said (lemma_fits k words lemma (entry_spelled k words (entry.Lemma lemma) some e), tt) h
-entry_fits k words (Some (entry.Gaps gaps)) f said some e h = said_fits k (entry_said (entry.Gaps gaps)) said (tt, tt) h
-entry_fits k words (Some entry.Open) f said some e h = said_fits k (entry_said entry.Open) said (tt, tt) h
+entry_fits k words (Some (entry.Ending (ending.Gaps gaps))) f said some e h = said_fits k (entry_said (entry.Ending (ending.Gaps gaps))) said (tt, tt) h
+entry_fits k words (Some (entry.Ending ending.Open)) f said some e h = said_fits k (entry_said (entry.Ending ending.Open)) said (tt, tt) h
 
 column_fits : (k : Kinds) (o : Option LogStep) (f : LogFault) (said : Said) → column_says o f ≡ Ok said → SaidFits k said
 column_fits k None f said h = not_said k f said h

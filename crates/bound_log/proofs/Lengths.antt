@@ -1,6 +1,6 @@
 -- How long the lines are.
 use Rattle.std.specs.Prelude.{ℕ, ◌≡◌, ◌+◌, ◌*◌, ◌<◌, ◌≤◌, Bool, true, false, List, [], ◌∷◌, ◌++◌, Option, Some, None, All, IfSome, length, codes, decimal}
-use Rattle.std.proofs.Common.{ap, arith, inl, inr}
+use Rattle.std.proofs.Common.{ap, arith, inl, inr, subst, sym}
 use Rattle.std.proofs.lemmas.Fmt.{length-decimal-le}
 use Rattle.std.proofs.lemmas.List.{length-append}
 use Rattle.std.proofs.lemmas.List.Elements.{All-head, All-tail}
@@ -16,7 +16,7 @@ use Rattle.bound_log.specs.declared.log.LogStep.{LogStep}
 use Rattle.bound_log.specs.Fits.{ForSome, IsLogName, LemmaFits, SideFits, StepFits}
 use Rattle.bound_log.specs.Text.{column_line, counts_text, end_text, flip_text, gaps_line, head_lines, lemma_line, more_counts_text, rule_text, side_text}
 use Rattle.bound_log.proofs.Again.{few_counts, few_each}
-use Rattle.bound_log.proofs.Texts.{joined_apart}
+use Rattle.bound_log.proofs.Texts.{joined_apart, state_apart}
 
 both : (a b : List ℕ) (m n : ℕ) → length a ≤ m → length b ≤ n → length (a ++ b) ≤ m + n
 both a b m n h g = omega (arith, length-append a b, h, g)
@@ -62,13 +62,14 @@ fields_short bound rule p n e f hb hr hp hn he hf =
 
 pub lemma_short : (lemma : Lemma) → ForSome (λ k. LemmaFits k lemma) → length (lemma_line lemma) ≤ 301
 lemma_short lemma (k, some, fits) =
-    fields_short (decimal lemma.bound) (rule_text lemma.rule) (counts_text lemma.state.p_left) (counts_text lemma.state.n_left) (end_text lemma.state.p_end) (end_text lemma.state.n_end)
+    let apart = state_apart (codes "lemma " ++ decimal lemma.bound ++ codes " " ++ rule_text lemma.rule ++ codes " ") (codes " ") (codes "\n") (counts_text lemma.state.p_left) (counts_text lemma.state.n_left) (end_text lemma.state.p_end) (end_text lemma.state.n_end) in
+    subst (λ (bs : List ℕ). length bs ≤ 301) (sym apart) (fields_short (decimal lemma.bound) (rule_text lemma.rule) (counts_text lemma.state.p_left) (counts_text lemma.state.n_left) (end_text lemma.state.p_end) (end_text lemma.state.n_end)
     (two_digits lemma.bound (omega (arith, fits.few)))
     (rule_short lemma.rule)
     (counts_short lemma.state.p_left (few_counts k.p lemma.state.p_left (few_each k.p (λ gate. (gates_few k gate some).0)) fits.state.p_kinds fits.state.p_counts) (omega (arith, fits.state.p_kinds, (kinds_few k some).0)))
     (counts_short lemma.state.n_left (few_counts k.n lemma.state.n_left (few_each k.n (λ gate. (gates_few k gate some).1)) fits.state.n_kinds fits.state.n_counts) (omega (arith, fits.state.n_kinds, (kinds_few k some).1)))
     (end_short k.nets lemma.state.p_end some.few_nets fits.state.p_end)
-    (end_short k.nets lemma.state.n_end some.few_nets fits.state.n_end)
+    (end_short k.nets lemma.state.n_end some.few_nets fits.state.n_end))
 
 flip_short : (flipped : Bool) → length (flip_text flipped) ≤ 1
 flip_short true = omega arith

@@ -16,3 +16,4 @@ pub mod Texts
 pub mod Told
 pub mod Versions
 pub mod Whole
+pub mod Rules

@@ -21,9 +21,11 @@ use Rattle.bound_log.specs.declared.log.Lemma.{Lemma}
 use Rattle.bound_log.specs.declared.log.LogStep.{LogStep}
 use Rattle.bound_log.specs.declared.log.Log.{Log}
 use Rattle.bound_log.specs.declared.log.Entry.{Entry}
+use Rattle.bound_log.specs.declared.log.Ending.{Ending}
+use Rattle.bound_log.specs.declared.log.Ending.TheVariants as ending
 use Rattle.bound_log.specs.declared.log.Entry.TheVariants as entry
 use Rattle.bound_log.specs.Fits.{Fits, LemmaFits, StepFits}
-use Rattle.bound_log.specs.Line.{entry_in, gaps_in, lemma_in, column_in, version_in}
+use Rattle.bound_log.specs.Line.{entry_in, gaps_in, lemma_in, column_in, ending_in, version_in}
 use Rattle.bound_log.specs.Reading.{begun_by, columns_at, end_at, log_at, log_of, named_at, text_at}
 use Rattle.bound_log.specs.Text.{best_text, column_line, lemma_line, log_text, version_line}
 use Rattle.bound_log.proofs.Spelled.{column_joined, step_spelled, column_words, cons_same, is_provided, lemma_joined, lemma_spelled, lemma_words, mapped, side_words}
@@ -58,14 +60,33 @@ gaps_spelled [] gaps h = absurd (none-some gaps h)
 gaps_spelled (a ∷ b ∷ bs) gaps h = absurd (none-some gaps h)
 gaps_spelled (a ∷ []) gaps h = let found : (a ≡ decimal gaps) × (gaps < 64) = found_below 64 a gaps h in (cons_same _ _ _ _ found.0 refl, found.1)
 
-unfoldable pub EntrySpelled : Kinds → List (List ℕ) → Entry → Type 0
-EntrySpelled k words (entry.Lemma lemma) = (words ≡ codes "lemma" ∷ lemma_words lemma) × LemmaFits k lemma
-EntrySpelled k words (entry.Gaps gaps) = (words ≡ codes "gaps" ∷ decimal gaps ∷ []) × (gaps < 64)
-EntrySpelled k words entry.Open = words ≡ codes "open" ∷ []
+abbrev pub EndingSpelled : List (List ℕ) → Ending → Type 0
+EndingSpelled words (ending.Gaps gaps) = (words ≡ codes "gaps" ∷ decimal gaps ∷ []) × (gaps < 64)
+EndingSpelled words ending.Open = words ≡ codes "open" ∷ []
 
 no_more : {X : Type 0} (xs : List X) → (length xs == 0) ≡ true → xs ≡ []
 no_more [] h = refl
 no_more (x ∷ xs) h = absurd (omega (arith, eqb-true (length (x ∷ xs)) 0 h))
+
+pub ending_spelled : (words : List (List ℕ)) (e : Ending) → ending_in words ≡ Some e → EndingSpelled words e
+ending_spelled [] e h = absurd (none-some e h)
+ending_spelled (word ∷ words) e h =
+    elim (chosen (is_word word (codes "gaps")) _ _ _ h) [
+      | inl y ↦
+          let g = mapped ending.Gaps (gaps_in words) e y.1 in
+          let spelled : (words ≡ decimal g.0 ∷ []) × (g.0 < 64) = gaps_spelled words g.0 g.1 in
+          subst (EndingSpelled (word ∷ words)) g.2 (cons_same _ _ _ _ (same_words word (codes "gaps") y.0) spelled.0, spelled.1)
+      | inr last ↦ elim (chosen (is_word word (codes "open")) _ _ _ last.1) [
+        | inl y ↦
+            let alone : ((length words == 0) ≡ true) × (Some ending.Open ≡ Some e) = is_provided (length words == 0) (λ _. Some ending.Open) e y.1 in
+            subst (EndingSpelled (word ∷ words)) (same_Some ending.Open e alone.1) (cons_same _ _ _ _ (same_words word (codes "open") y.0) (no_more words alone.0))
+        | inr none ↦ absurd (none-some e none.1)
+      ]
+    ]
+
+unfoldable pub EntrySpelled : Kinds → List (List ℕ) → Entry → Type 0
+EntrySpelled k words (entry.Lemma lemma) = (words ≡ codes "lemma" ∷ lemma_words lemma) × LemmaFits k lemma
+EntrySpelled k words (entry.Ending e) = EndingSpelled words e
 
 pub entry_spelled : (k : Kinds) (words : List (List ℕ)) (e : Entry) → AreSomeKinds k → entry_in k words ≡ Some e → EntrySpelled k words e
 unfolding EntrySpelled
@@ -76,18 +97,9 @@ entry_spelled k (word ∷ words) e some h =
           let l = mapped entry.Lemma (lemma_in k words) e y.1 in
           let spelled : (words ≡ lemma_words l.0) × LemmaFits k l.0 = lemma_spelled k words l.0 some l.1 in
           subst (EntrySpelled k (word ∷ words)) l.2 (cons_same _ _ _ _ (same_words word (codes "lemma") y.0) spelled.0, spelled.1)
-      | inr other ↦ elim (chosen (is_word word (codes "gaps")) _ _ _ other.1) [
-        | inl y ↦
-            let g = mapped entry.Gaps (gaps_in words) e y.1 in
-            let spelled : (words ≡ decimal g.0 ∷ []) × (g.0 < 64) = gaps_spelled words g.0 g.1 in
-            subst (EntrySpelled k (word ∷ words)) g.2 (cons_same _ _ _ _ (same_words word (codes "gaps") y.0) spelled.0, spelled.1)
-        | inr last ↦ elim (chosen (is_word word (codes "open")) _ _ _ last.1) [
-          | inl y ↦
-              let alone : ((length words == 0) ≡ true) × (Some entry.Open ≡ Some e) = is_provided (length words == 0) (λ _. Some entry.Open) e y.1 in
-              subst (EntrySpelled k (word ∷ words)) (same_Some entry.Open e alone.1) (cons_same _ _ _ _ (same_words word (codes "open") y.0) (no_more words alone.0))
-          | inr none ↦ absurd (none-some e none.1)
-        ]
-      ]
+      | inr other ↦
+          let ended = mapped entry.Ending (ending_in (word ∷ words)) e other.1 in
+          subst (EntrySpelled k (word ∷ words)) ended.2 (ending_spelled (word ∷ words) ended.0 ended.1)
     ]
 
 pub column_spelled : (k : Kinds) (words : List (List ℕ)) (listed : LogStep) → column_in k words ≡ Some listed → (words ≡ codes "column" ∷ column_words listed) × StepFits k listed
@@ -103,8 +115,8 @@ column_spelled k (word ∷ words) listed h =
 spelled_few : (k : Kinds) (words : List (List ℕ)) (e : Entry) → EntrySpelled k words e → length words ≤ 7
 unfolding EntrySpelled lemma_words
 spelled_few k words (entry.Lemma lemma) h = omega (arith, ap length h.0)
-spelled_few k words (entry.Gaps gaps) h = omega (arith, ap length h.0)
-spelled_few k words entry.Open h = omega (arith, ap length h)
+spelled_few k words (entry.Ending (ending.Gaps gaps)) h = omega (arith, ap length h.0)
+spelled_few k words (entry.Ending ending.Open) h = omega (arith, ap length h)
 
 -- more words than any line has
 pub long_entry : (k : Kinds) (words : List (List ℕ)) → AreSomeKinds k → 7 < length words → entry_in k words ≡ None
@@ -184,7 +196,7 @@ lemma_before version k line lines rest lemma log one later =
       later.2,
     )
 
-gaps_before : (version : ℕ) (k : Kinds) (line : List ℕ) (lines : List (List ℕ)) (rest : List ℕ) (gaps : ℕ) (steps : List LogStep) → IsVersion version → EntrySpelled k (words_in line) (entry.Gaps gaps) → (lines_text lines rest ≡ flat_map column_line steps ++ codes "end\n") × All (StepFits k) steps → RestSpelled version k (line ∷ lines) rest (record { version = version; lemmas = []; best = Some (record { gaps = gaps; steps = steps }) })
+gaps_before : (version : ℕ) (k : Kinds) (line : List ℕ) (lines : List (List ℕ)) (rest : List ℕ) (gaps : ℕ) (steps : List LogStep) → IsVersion version → EntrySpelled k (words_in line) (entry.Ending (ending.Gaps gaps)) → (lines_text lines rest ≡ flat_map column_line steps ++ codes "end\n") × All (StepFits k) steps → RestSpelled version k (line ∷ lines) rest (record { version = version; lemmas = []; best = Some (record { gaps = gaps; steps = steps }) })
 unfolding EntrySpelled RestSpelled
 gaps_before version k line lines rest gaps steps known one later =
     let here : fed line ≡ codes "gaps " ++ (decimal gaps ++ codes "\n") = line_of_words line (codes "gaps" ∷ decimal gaps ∷ []) one.0 in (
@@ -196,7 +208,7 @@ gaps_before version k line lines rest gaps steps known one later =
     gaps_apart : (g cs : List ℕ) → (codes "gaps " ++ (g ++ codes "\n")) ++ (cs ++ codes "end\n") ≡ (codes "gaps " ++ g ++ codes "\n" ++ cs) ++ codes "end\n"
     gaps_apart g cs = simp append_assoc
 
-open_before : (version : ℕ) (k : Kinds) (line : List ℕ) (lines : List (List ℕ)) (rest : List ℕ) → IsVersion version → EntrySpelled k (words_in line) entry.Open → lines_text lines rest ≡ codes "end\n" → RestSpelled version k (line ∷ lines) rest (record { version = version; lemmas = []; best = None })
+open_before : (version : ℕ) (k : Kinds) (line : List ℕ) (lines : List (List ℕ)) (rest : List ℕ) → IsVersion version → EntrySpelled k (words_in line) (entry.Ending ending.Open) → lines_text lines rest ≡ codes "end\n" → RestSpelled version k (line ∷ lines) rest (record { version = version; lemmas = []; best = None })
 unfolding EntrySpelled RestSpelled
 open_before version k line lines rest known one later = (
   text_cons line lines rest ∙ (ap (λ (bs : List ℕ). bs ++ lines_text lines rest) (line_of_words line (codes "open" ∷ []) one) ∙ ap (λ (bs : List ℕ). codes "open\n" ++ bs) later),
@@ -215,10 +227,10 @@ log_only version k n (line ∷ lines) rest log known some h =
     by_entry (entry.Lemma lemma) read spelled more =
         let later = bound_ok (log_at version k (n + 1) lines rest) _ log read in
         subst (RestSpelled version k (line ∷ lines) rest) (same_Ok _ log later.2) (lemma_before version k line lines rest lemma later.0 spelled (more later.0 later.1))
-    by_entry (entry.Gaps gaps) read spelled more =
+    by_entry (entry.Ending (ending.Gaps gaps)) read spelled more =
         let steps = bound_ok (columns_at k (n + 1) lines rest) _ log read in
         subst (RestSpelled version k (line ∷ lines) rest) (same_Ok _ log steps.2) (gaps_before version k line lines rest gaps steps.0 known spelled (columns_only k (n + 1) lines rest steps.0 steps.1))
-    by_entry entry.Open read spelled more =
+    by_entry (entry.Ending ending.Open) read spelled more =
         let end = bound_ok (end_at (n + 1) lines rest) _ log read in
         subst (RestSpelled version k (line ∷ lines) rest) (same_Ok _ log end.2) (open_before version k line lines rest known spelled (end_only (n + 1) lines rest end.0 end.1))
 

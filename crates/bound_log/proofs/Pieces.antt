@@ -18,6 +18,7 @@ use Rattle.bound_log.specs.declared.item.LogPlace.TheVariants as place
 use Rattle.bound_log.specs.declared.log.LogStep.{LogStep}
 use Rattle.bound_log.specs.declared.log.Log.{Log}
 use Rattle.bound_log.specs.declared.log.Entry.{Entry}
+use Rattle.bound_log.specs.declared.log.Ending.TheVariants as ending
 use Rattle.bound_log.specs.declared.log.Entry.TheVariants as entry
 use Rattle.bound_log.specs.Fits.{IsLogName}
 use Rattle.bound_log.specs.Line.{column_in, entry_in, version_in}
@@ -130,11 +131,11 @@ at_lemmas version name k n (line ∷ lines) rest is some lack last =
         let tale = tale_of (at_line name k place.Lemmas (n + 1)) (lines_text lines rest) in
         ended_more tale.reader.fault tale.reader.place (λ (log : Log). record { version = log.version; lemmas = lemma ∷ log.lemmas; best = log.best }) (of_version version tale.items)
         ∙ ap (λ (r : Result Log LogFault). r >>= λ log. Ok (record { version = log.version; lemmas = lemma ∷ log.lemmas; best = log.best })) later
-    by_entry (Some (entry.Gaps gaps)) later =
+    by_entry (Some (entry.Ending (ending.Gaps gaps))) later =
         let tale = tale_of (at_line name k place.Columns (n + 1)) (lines_text lines rest) in
         ended_more tale.reader.fault tale.reader.place (λ (steps : List LogStep). record { version = version; lemmas = []; best = Some (record { gaps = gaps; steps = steps }) }) (columns_told tale.items)
         ∙ ap (λ (r : Result (List LogStep) LogFault). r >>= λ steps. Ok (record { version = version; lemmas = []; best = Some (record { gaps = gaps; steps = steps }) })) (at_columns name k (n + 1) lines rest is some (All-tail (Lacks 10) line lines lack) last)
-    by_entry (Some entry.Open) later = at_end (λ items. of_version version (item.Open ∷ items)) name k (n + 1) lines rest is some (All-tail (Lacks 10) line lines lack) last
+    by_entry (Some (entry.Ending ending.Open)) later = at_end (λ items. of_version version (item.Open ∷ items)) name k (n + 1) lines rest is some (All-tail (Lacks 10) line lines lack) last
 
 -- ---- the first two lines
 

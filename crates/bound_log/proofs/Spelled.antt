@@ -25,6 +25,7 @@ use Rattle.bound_log.specs.declared.log.LogStep.{LogStep}
 use Rattle.bound_log.specs.Fits.{IsFilled, LemmaFits, SideFits, StepFits}
 use Rattle.bound_log.specs.Line.{◌>>=◌, step_in, counts_each, counts_in, end_in, flip_in, lemma_in, place_in, provided, rule_in, side_in, state_in}
 use Rattle.bound_log.specs.Text.{column_line, counts_text, end_text, flip_text, lemma_line, rule_text, side_text}
+use Rattle.bound_log.proofs.Texts.{state_apart}
 
 pub bound : {A B : Type 0} (o : Option A) (f : A → Option B) (b : B) → (o >>= f) ≡ Some b → (a : A) × (o ≡ Some a) × (f a ≡ Some b)
 bound None f b h = absurd (none-some b h)
@@ -107,14 +108,14 @@ unfoldable pub lemma_words : Lemma → List (List ℕ)
 lemma_words lemma =
     decimal lemma.bound ∷ rule_text lemma.rule ∷ counts_text lemma.state.p_left ∷ counts_text lemma.state.n_left ∷ end_text lemma.state.p_end ∷ end_text lemma.state.n_end ∷ []
 
-record StateSpelled (k : Kinds) (p_left n_left p_end n_end : List ℕ) (state : State) : Type 0 where
-  p_left_is : p_left ≡ counts_text state.p_left
-  n_left_is : n_left ≡ counts_text state.n_left
-  p_end_is : p_end ≡ end_text state.p_end
-  n_end_is : n_end ≡ end_text state.n_end
-  valid : state_test k state ≡ true
+pub record StateSpelled (k : Kinds) (p_left n_left p_end n_end : List ℕ) (state : State) : Type 0 where
+  pub p_left_is : p_left ≡ counts_text state.p_left
+  pub n_left_is : n_left ≡ counts_text state.n_left
+  pub p_end_is : p_end ≡ end_text state.p_end
+  pub n_end_is : n_end ≡ end_text state.n_end
+  pub valid : state_test k state ≡ true
 
-state_spelled : (k : Kinds) (p_left n_left p_end n_end : List ℕ) (state : State) → state_in k p_left n_left p_end n_end ≡ Some state → StateSpelled k p_left n_left p_end n_end state
+pub state_spelled : (k : Kinds) (p_left n_left p_end n_end : List ℕ) (state : State) → state_in k p_left n_left p_end n_end ≡ Some state → StateSpelled k p_left n_left p_end n_end state
 state_spelled k p_left n_left p_end n_end state h =
     let p = bound (counts_in k.p p_left) _ state h in
     let n = bound (counts_in k.n n_left) _ state p.2 in
@@ -215,9 +216,14 @@ step_spelled k (gate ∷ p_kind ∷ p_flip ∷ n_kind ∷ n_flip ∷ []) listed 
 
 -- ---- lines
 
-pub lemma_joined : (lemma : Lemma) → fed (join_with_byte 32 (codes "lemma" ∷ lemma_words lemma)) ≡ lemma_line lemma
+fields_joined : (lemma : Lemma) → fed (join_with_byte 32 (codes "lemma" ∷ lemma_words lemma)) ≡ codes "lemma " ++ decimal lemma.bound ++ codes " " ++ rule_text lemma.rule ++ codes " " ++ counts_text lemma.state.p_left ++ codes " " ++ counts_text lemma.state.n_left ++ codes " " ++ end_text lemma.state.p_end ++ codes " " ++ end_text lemma.state.n_end ++ codes "\n"
 unfolding lemma_words
-lemma_joined lemma = simp append_assoc
+fields_joined lemma = simp append_assoc
+
+pub lemma_joined : (lemma : Lemma) → fed (join_with_byte 32 (codes "lemma" ∷ lemma_words lemma)) ≡ lemma_line lemma
+lemma_joined lemma =
+    fields_joined lemma
+    ∙ sym (state_apart (codes "lemma " ++ decimal lemma.bound ++ codes " " ++ rule_text lemma.rule ++ codes " ") (codes " ") (codes "\n") (counts_text lemma.state.p_left) (counts_text lemma.state.n_left) (end_text lemma.state.p_end) (end_text lemma.state.n_end))
 
 -- the text of a column, with the texts of its places apart
 column_apart : (gate p n : List ℕ) → codes "column " ++ gate ++ codes " " ++ p ++ codes " " ++ n ++ codes "\n" ≡ codes "column " ++ (gate ++ (32 ∷ (p ++ (32 ∷ (n ++ (10 ∷ []))))))

@@ -43,3 +43,7 @@ counts_left counts d old mid new some left more = omega (arith, counts_length co
 pub on_err : {A E : Type 0} (r : Result A E) (P : Type 0) → P → OnErr r P
 on_err (Ok a) P h = tt
 on_err (Err e) P h = h
+
+-- between a front and an end, the words of a state stand one by one
+pub state_apart : (front gap end p n e f : List ℕ) → front ++ (p ++ gap ++ n ++ gap ++ e ++ gap ++ f) ++ end ≡ front ++ p ++ gap ++ n ++ gap ++ e ++ gap ++ f ++ end
+state_apart front gap end p n e f = simp append_assoc

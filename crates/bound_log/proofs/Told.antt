@@ -20,6 +20,7 @@ use Rattle.bound_log.specs.declared.item.LogPlace.{LogPlace}
 use Rattle.bound_log.specs.declared.item.LogPlace.TheVariants as place
 use Rattle.bound_log.specs.declared.log.LogStep.{LogStep}
 use Rattle.bound_log.specs.declared.log.Entry.{Entry}
+use Rattle.bound_log.specs.declared.log.Ending.TheVariants as ending
 use Rattle.bound_log.specs.declared.log.Entry.TheVariants as entry
 use Rattle.bound_log.specs.Fits.{IsLogName}
 use Rattle.bound_log.specs.Line.{column_in, entry_in}
@@ -40,9 +41,9 @@ spelled_length : (k : Kinds) (line : List ℕ) (words : List (List ℕ)) (e : En
 unfolding EntrySpelled
 spelled_length k line words (entry.Lemma lemma) some is h =
     line_length line _ (line_of_words line words is ∙ (ap (λ (ws : List (List ℕ)). fed (join_with_byte 32 ws)) h.0 ∙ lemma_joined lemma)) (lemma_short lemma (k, some, h.1))
-spelled_length k line words (entry.Gaps gaps) some is h =
+spelled_length k line words (entry.Ending (ending.Gaps gaps)) some is h =
     line_length line (gaps_line gaps) (line_of_words line words is ∙ ap (λ (ws : List (List ℕ)). fed (join_with_byte 32 ws)) h.0) (gaps_short gaps (omega (arith, h.1)))
-spelled_length k line words entry.Open some is h =
+spelled_length k line words (entry.Ending ending.Open) some is h =
     line_length line (codes "open\n") (line_of_words line words is ∙ ap (λ (ws : List (List ℕ)). fed (join_with_byte 32 ws)) h) (omega arith)
 
 long_entry : (k : Kinds) (line : List ℕ) → AreSomeKinds k → 300 < length line → entry_in k (words_in line) ≡ None

@@ -19,6 +19,7 @@ use Rattle.bound_log.specs.declared.log.LogStep.{LogStep}
 use Rattle.bound_log.specs.declared.log.Best.{Best}
 use Rattle.bound_log.specs.declared.log.Log.{Log}
 use Rattle.bound_log.specs.declared.log.Entry.{Entry}
+use Rattle.bound_log.specs.declared.log.Ending.TheVariants as ending
 use Rattle.bound_log.specs.declared.log.Entry.TheVariants as entry
 use Rattle.bound_log.specs.Fits.{BestFits, Fits, IsLogName, LemmaFits, StepFits}
 use Rattle.bound_log.specs.Line.{entry_in, column_in}
@@ -78,7 +79,7 @@ gaps_above gaps =
     All-cons (IsAbove 32) (codes "gaps") (decimal gaps ∷ []) (by_test 32 (codes "gaps") refl)
     (All-cons (IsAbove 32) (decimal gaps) [] (above_more 47 32 (decimal gaps) (omega arith) (above_decimal gaps)) (All-nil (IsAbove 32)))
 
-gaps_again : (k : Kinds) (gaps : ℕ) → gaps ≤ 63 → entry_in k (codes "gaps" ∷ decimal gaps ∷ []) ≡ Some (entry.Gaps gaps)
+gaps_again : (k : Kinds) (gaps : ℕ) → gaps ≤ 63 → entry_in k (codes "gaps" ∷ decimal gaps ∷ []) ≡ Some (entry.Ending (ending.Gaps gaps))
 gaps_again k gaps few = rw (is_below 64 (decimal gaps) gaps refl (omega (arith, few)) (omega arith)) refl
 
 pub gaps_front : (best : Best) (rest : List ℕ) → best_text (Some best) ++ rest ≡ fed (join_with_byte 32 (codes "gaps" ∷ decimal best.gaps ∷ [])) ++ (flat_map column_line best.steps ++ rest)
@@ -95,9 +96,9 @@ best_again version k n (Some best) some h =
     let above : All (IsAbove 32) (codes "gaps" ∷ decimal best.gaps ∷ []) = gaps_above best.gaps in
     let lack : Lacks 10 line = words_lack (codes "gaps" ∷ decimal best.gaps ∷ []) above in
     let whole : best_text (Some best) ++ codes "end\n" ≡ fed line ++ text = gaps_front best (codes "end\n") in
-    let words : entry_in k (words_in line) ≡ Some (entry.Gaps best.gaps) = ap (entry_in k) (words_again (codes "gaps") (decimal best.gaps ∷ []) above) ∙ gaps_again k best.gaps h.few in
+    let words : entry_in k (words_in line) ≡ Some (entry.Ending (ending.Gaps best.gaps)) = ap (entry_in k) (words_again (codes "gaps") (decimal best.gaps ∷ []) above) ∙ gaps_again k best.gaps h.few in
     ap (λ (t : List ℕ). log_at version k n (lines_in t) (behind t)) whole
-    ∙ (rw (fed_first line text lack, fed_behind line text lack) (log_step version k n line (lines_in text) (behind text) (entry.Gaps best.gaps) words ∙ rw (columns_again k (n + 1) best.steps some h.steps) refl))
+    ∙ (rw (fed_first line text lack, fed_behind line text lack) (log_step version k n line (lines_in text) (behind text) (entry.Ending (ending.Gaps best.gaps)) words ∙ rw (columns_again k (n + 1) best.steps some h.steps) refl))
 
 pub lemmas_front : (lemma : Lemma) (lemmas : List Lemma) (rest : List ℕ) → flat_map lemma_line (lemma ∷ lemmas) ++ rest ≡ fed (join_with_byte 32 (codes "lemma" ∷ lemma_words lemma)) ++ (flat_map lemma_line lemmas ++ rest)
 lemmas_front lemma lemmas rest = append_assoc (lemma_line lemma) (flat_map lemma_line lemmas) rest ∙ ap (λ (bs : List ℕ). bs ++ (flat_map lemma_line lemmas ++ rest)) (sym (lemma_joined lemma))

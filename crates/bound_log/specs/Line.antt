@@ -14,6 +14,8 @@ use Rattle.bound_log.specs.declared.log.Rule.{Rule}
 use Rattle.bound_log.specs.declared.log.Rule.TheVariants as by
 use Rattle.bound_log.specs.declared.log.Lemma.{Lemma}
 use Rattle.bound_log.specs.declared.log.LogStep.{LogStep}
+use Rattle.bound_log.specs.declared.log.Ending.{Ending}
+use Rattle.bound_log.specs.declared.log.Ending.TheVariants as ending
 use Rattle.bound_log.specs.declared.log.Entry.{Entry}
 use Rattle.bound_log.specs.declared.log.Entry.TheVariants as entry
 use Rattle.bound_log.specs.Text.{version_line}
@@ -115,14 +117,20 @@ step_in k (gate ∷ p_kind ∷ p_flip ∷ n_kind ∷ n_flip ∷ []) = do
   Some (record { gate = record { 0 = net }; step = record { p = p; n = n } })
 step_in k _ = None
 
--- a line of the lemmas, or the one that ends them
+-- the line after the lemmas
+abbrev pub ending_in : List (List ℕ) → Option Ending
+ending_in [] = None
+ending_in (word ∷ words) =
+    if is_word word (codes "gaps") then option_map ending.Gaps (gaps_in words) else
+    if is_word word (codes "open") then (provided (length words == 0) >>= λ _. Some ending.Open) else
+    None
+
+-- a line of the lemmas, or the one after them
 abbrev pub entry_in : Kinds → List (List ℕ) → Option Entry
 entry_in k [] = None
 entry_in k (word ∷ words) =
     if is_word word (codes "lemma") then option_map entry.Lemma (lemma_in k words) else
-    if is_word word (codes "gaps") then option_map entry.Gaps (gaps_in words) else
-    if is_word word (codes "open") then (provided (length words == 0) >>= λ _. Some entry.Open) else
-    None
+    option_map entry.Ending (ending_in (word ∷ words))
 
 -- a line of the columns
 abbrev pub column_in : Kinds → List (List ℕ) → Option LogStep

@@ -15,6 +15,7 @@ use Rattle.bound_log.specs.declared.said.Said.{Said}
 use Rattle.bound_log.specs.declared.log.LogStep.{LogStep}
 use Rattle.bound_log.specs.declared.log.Log.{Log}
 use Rattle.bound_log.specs.declared.log.Entry.{Entry}
+use Rattle.bound_log.specs.declared.log.Ending.TheVariants as ending
 use Rattle.bound_log.specs.declared.log.Entry.TheVariants as entry
 use Rattle.bound_log.specs.Fits.{LemmaFits}
 use Rattle.bound_log.specs.Line.{entry_in, column_in, version_in}
@@ -45,8 +46,8 @@ version_says None = Err fault.Version
 
 abbrev pub entry_said : Entry → Said
 entry_said (entry.Lemma lemma) = record { item = item.Lemma lemma; next = place.Lemmas }
-entry_said (entry.Gaps gaps) = record { item = item.Gaps gaps; next = place.Columns }
-entry_said entry.Open = record { item = item.Open; next = place.End }
+entry_said (entry.Ending (ending.Gaps gaps)) = record { item = item.Gaps gaps; next = place.Columns }
+entry_said (entry.Ending ending.Open) = record { item = item.Open; next = place.End }
 
 abbrev pub entry_says : Option Entry → LogFault → Result Said LogFault
 entry_says (Some e) f = Ok (entry_said e)

@@ -10,6 +10,7 @@ use Rattle.bound_log.specs.declared.fault.LogFault.TheVariants as fault
 use Rattle.bound_log.specs.declared.log.LogStep.{LogStep}
 use Rattle.bound_log.specs.declared.log.Log.{Log}
 use Rattle.bound_log.specs.declared.log.Entry.{Entry}
+use Rattle.bound_log.specs.declared.log.Ending.TheVariants as ending
 use Rattle.bound_log.specs.declared.log.Entry.TheVariants as entry
 use Rattle.bound_log.specs.Line.{entry_in, column_in, version_in}
 
@@ -36,13 +37,14 @@ abbrev pub begun_by : ℕ → Entry → Result Log LogFault → Result (List Log
     → Result Log LogFault
 begun_by version (entry.Lemma lemma) log columns end =
     log >>= λ later. Ok (record { version = later.version; lemmas = lemma ∷ later.lemmas; best = later.best })
-begun_by version (entry.Gaps gaps) log columns end =
+begun_by version (entry.Ending (ending.Gaps gaps)) log columns end =
     columns >>= λ steps. Ok (record {
       version = version;
       lemmas = [];
       best = Some (record { gaps = gaps; steps = steps });
     })
-begun_by version entry.Open log columns end = end >>= λ _. Ok (record { version = version; lemmas = []; best = None })
+begun_by version (entry.Ending ending.Open) log columns end =
+    end >>= λ _. Ok (record { version = version; lemmas = []; best = None })
 
 -- of a log of that version: lemmas, then either gaps and columns or `open`, then `end`
 unfoldable pub log_at : ℕ → Kinds → ℕ → List (List ℕ) → List ℕ → Result Log LogFault

@@ -3,6 +3,7 @@ use Rattle.std.specs.Prelude.{ℕ, Bool, true, false, List, [], ◌∷◌, ◌++
 use Rattle.std.specs.Prelude.{decimal}
 use Rattle.std.specs.List.{join_with_byte}
 use Rattle.cell_num.specs.declared.net.NetNo.{NetNo}
+use Rattle.row_state.specs.declared.state.State.{State}
 use Rattle.row_state.specs.declared.step.Side.{Side}
 use Rattle.bound_log.specs.declared.log.Rule.{Rule}
 use Rattle.bound_log.specs.declared.log.Rule.TheVariants as by
@@ -29,6 +30,12 @@ abbrev pub end_text : Option NetNo → List ℕ
 end_text None = codes "-"
 end_text (Some net) = decimal net.0
 
+-- the counts left of each row, and the open end of each
+abbrev pub state_text : State → List ℕ
+state_text state =
+    counts_text state.p_left ++ codes " " ++ counts_text state.n_left ++ codes " " ++ end_text state.p_end
+    ++ codes " " ++ end_text state.n_end
+
 abbrev pub lemma_line : Lemma → List ℕ
 lemma_line lemma =
     codes "lemma "
@@ -36,13 +43,7 @@ lemma_line lemma =
     ++ codes " "
     ++ rule_text lemma.rule
     ++ codes " "
-    ++ counts_text lemma.state.p_left
-    ++ codes " "
-    ++ counts_text lemma.state.n_left
-    ++ codes " "
-    ++ end_text lemma.state.p_end
-    ++ codes " "
-    ++ end_text lemma.state.n_end
+    ++ state_text lemma.state
     ++ codes "\n"
 
 abbrev pub flip_text : Bool → List ℕ

@@ -19,7 +19,7 @@ fn is_version(version: u32) -> bool
 }
 
 /// The version of the log of which this is the first line.
-#[tactic(auto, using(crate::proofs::Versions::no_front, crate::proofs::Versions::no_version, crate::proofs::Versions::other_version, crate::proofs::Versions::known_version))]
+#[tactic(auto, using(crate::proofs::Rules::version_rules))]
 pub(crate) fn version(line: &[u8]) -> Option<u32>
     ensures { result ≡ version_in line.now }
 {

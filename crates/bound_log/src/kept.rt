@@ -21,7 +21,7 @@ struct Packed {
 }
 
 impl Packed {
-    #[tactic(auto, using(crate::proofs::Keeping::high_fits, crate::proofs::Keeping::low_fits, crate::proofs::Keeping::bits_joined))]
+    #[tactic(auto, using(crate::proofs::Rules::new_rules))]
     fn new(state: u128, bound: u32, rule: Rule) -> Packed
         requires state { state < 79228162514264337593543950336 }
         requires bound { bound ≤ 255 }

@@ -1,17 +1,17 @@
 ghost use Rattle.std.specs.Prelude.{◌≡◌, [], IfOk, IsTrue, map};
 ghost use Rattle.row_state.specs.Tests.{counts_fit, end_fits, state_test};
 ghost use Rattle.log_lines.specs.Words.{parts_at, words_in};
-ghost use Rattle.bound_log.specs.Line.{FewOfEach, column_in, counts_each, counts_in, entry_in, gaps_in, lemma_in};
-ghost use Rattle.bound_log.specs.Line.{state_in, step_in};
+ghost use Rattle.bound_log.specs.Line.{FewOfEach, column_in, counts_each, counts_in, ending_in, entry_in, gaps_in};
+ghost use Rattle.bound_log.specs.Line.{lemma_in, state_in, step_in};
 
 use crate::field::{end, rule, side};
-use crate::{Entry, Lemma, LogStep, MOST_GAPS};
+use crate::{Ending, Entry, Lemma, LogStep, MOST_GAPS};
 use cell_num::{NetNo, NoMemory};
 use log_lines::{few_parts, first_part, is_word, number_below};
 use row_state::{Counts, Kind, Kinds, State, Step, has_leads};
 use std::alloc::Global;
 
-#[tactic(auto, using(crate::proofs::Counts::few_here, crate::proofs::Counts::no_part, crate::proofs::Counts::bad_count, crate::proofs::Counts::next_count, crate::proofs::Counts::too_many, crate::proofs::Counts::all_counts))]
+#[tactic(auto, using(crate::proofs::Rules::some_counts_rules))]
 fn some_counts(alloc: Global, kinds: &[Kind], word: &[u8]) -> Result<Option<Counts>, NoMemory>
     requires { FewOfEach kinds.now }
     ensures { IfOk result (λ counts. counts ≡ counts_each kinds.now (parts_at 44 word.now)) }
@@ -67,8 +67,9 @@ fn is_valid(state: &State, kinds: &Kinds) -> bool
     has_leads(state, kinds)
 }
 
+/// A valid state, by its four words: the counts left of each row, and the open end of each.
 #[tactic(auto, using(crate::proofs::Counts::few_of_each))]
-fn state(
+pub fn state_of_words(
     alloc: Global,
     kinds: &Kinds,
     p_left: &[u8],
@@ -118,14 +119,13 @@ fn lemma(alloc: Global, kinds: &Kinds, words: &[&[u8]]) -> Result<Option<Lemma>,
     let Some(rule) = rule(reason) else {
         return Ok(None);
     };
-    let Some(state) = state(alloc, kinds, p_left, n_left, p_end, n_end)? else {
+    let Some(state) = state_of_words(alloc, kinds, p_left, n_left, p_end, n_end)? else {
         return Ok(None);
     };
     Ok(Some(Lemma { state, bound, rule }))
 }
 
-/// The gaps of a row, of the words after `gaps`: one number, of at most [`MOST_GAPS`].
-pub fn gaps_of_words(words: &[&[u8]]) -> Option<u32>
+fn gaps_of_words(words: &[&[u8]]) -> Option<u32>
     ensures { result ≡ gaps_in (map (λ word. word.now) words.now) }
 {
     match words {
@@ -152,6 +152,22 @@ fn step(kinds: &Kinds, words: &[&[u8]]) -> Option<LogStep>
     })
 }
 
+/// The line after the lemmas, by its words: `gaps` and one number, of at most [`MOST_GAPS`], or `open`.
+pub fn ending_of_words(words: &[&[u8]]) -> Option<Ending>
+    ensures { result ≡ ending_in (map (λ word. word.now) words.now) }
+{
+    let [word, rest @ ..] = words else {
+        return None;
+    };
+    if is_word(word, b"gaps") {
+        return gaps_of_words(rest).map(Ending::Gaps);
+    }
+    if is_word(word, b"open") && rest.is_empty() {
+        return Some(Ending::Open);
+    }
+    None
+}
+
 fn entry_of_words(alloc: Global, kinds: &Kinds, words: &[&[u8]]) -> Result<Option<Entry>, NoMemory>
     ensures { IfOk result (λ entry. entry ≡ entry_in kinds.now (map (λ word. word.now) words.now)) }
 {
@@ -161,13 +177,7 @@ fn entry_of_words(alloc: Global, kinds: &Kinds, words: &[&[u8]]) -> Result<Optio
     if is_word(word, b"lemma") {
         return Ok(lemma(alloc, kinds, rest)?.map(Entry::Lemma));
     }
-    if is_word(word, b"gaps") {
-        return Ok(gaps_of_words(rest).map(Entry::Gaps));
-    }
-    if is_word(word, b"open") && rest.is_empty() {
-        return Ok(Some(Entry::Open));
-    }
-    Ok(None)
+    Ok(ending_of_words(words).map(Entry::Ending))
 }
 
 fn column_of_words(kinds: &Kinds, words: &[&[u8]]) -> Option<LogStep>

@@ -23,13 +23,18 @@ pub struct Lemma {
 /// The lemmas of a log, each after those that it needs.
 pub type LemmaList = List<Lemma>;
 
-/// What a line says after the name: a lemma, or what follows the lemmas: the gaps of a row whose columns
-/// are listed, or that none is.
+/// What the line after the lemmas says: the gaps of a row whose columns are listed, or that none is.
+#[derive(Clone, Copy, Debug)]
+pub enum Ending {
+    Gaps(u32),
+    Open,
+}
+
+/// What a line says after the name: a lemma, or what follows the lemmas.
 #[derive(Debug, Drop)]
 pub enum Entry {
     Lemma(Lemma),
-    Gaps(u32),
-    Open,
+    Ending(Ending),
 }
 
 /// A column of the row, by its gate and the kinds of its fingers.

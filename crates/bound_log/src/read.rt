@@ -8,7 +8,7 @@ ghost use Rattle.bound_log.specs.Text.{log_text};
 
 use crate::head::version;
 use crate::line::{read_column, read_entry};
-use crate::{Best, Entry, LemmaList, Log, LogFault, LogSteps};
+use crate::{Best, Ending, Entry, LemmaList, Log, LogFault, LogSteps};
 use cell_num::{MOST_BYTES, Name};
 use log_lines::{first_line, is_named, is_word};
 use row_state::Kinds;
@@ -33,7 +33,7 @@ pub fn read_end(bytes: &[u8], number: u32) -> Result<(), LogFault>
 }
 
 /// The columns up to the line `end`, the last, from the line of that number on: else the first fault.
-#[tactic(auto, using(crate::proofs::Fronts::columns_cut, crate::proofs::Fronts::columns_done, crate::proofs::Fronts::columns_open, crate::proofs::Fronts::columns_wrong, crate::proofs::Fronts::columns_more))]
+#[tactic(auto, using(crate::proofs::Rules::read_columns_rules))]
 pub fn read_columns(
     alloc: Global,
     kinds: &Kinds,
@@ -67,7 +67,7 @@ pub fn read_columns(
 }
 
 // The lemmas of a log of that version, and after them the row that they certify, or `open`.
-#[tactic(auto, using(crate::proofs::Fronts::log_cut, crate::proofs::Fronts::log_wrong, crate::proofs::Fronts::log_more, crate::proofs::Fronts::log_listed, crate::proofs::Fronts::log_unlisted, crate::proofs::Fronts::log_ended, crate::proofs::Fronts::log_unended))]
+#[tactic(auto, using(crate::proofs::Rules::read_lemmas_rules))]
 fn read_lemmas(
     alloc: Global,
     version: u32,
@@ -90,7 +90,7 @@ fn read_lemmas(
         };
         match read_entry(alloc, kinds, first.line)? {
             Some(Entry::Lemma(lemma)) => lemmas.push(lemma)?,
-            Some(Entry::Gaps(gaps)) => {
+            Some(Entry::Ending(Ending::Gaps(gaps))) => {
                 let steps = read_columns(alloc, kinds, first.after, number + 1)?;
                 return Ok(Log {
                     version,
@@ -98,7 +98,7 @@ fn read_lemmas(
                     best: Some(Best { gaps, steps }),
                 });
             }
-            Some(Entry::Open) => {
+            Some(Entry::Ending(Ending::Open)) => {
                 read_end(first.after, number + 1)?;
                 return Ok(Log {
                     version,

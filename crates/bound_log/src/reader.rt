@@ -146,7 +146,7 @@ impl LogReader {
     /// Takes the front of a piece that is not empty, up to the end of one line or all of it, and answers
     /// how many bytes that is and what the line says. After a fault each call answers that fault; after
     /// NoMemory the reader is as it was.
-    #[tactic(auto, using(crate::proofs::Tales::faulted, crate::proofs::Tales::behind_end, crate::proofs::Tales::no_feed, crate::proofs::Tales::one_line, crate::proofs::Tales::one_fault))]
+    #[tactic(auto, using(crate::proofs::Rules::take_rules))]
     pub fn take(&mut self, part: &[u8]) -> Result<(usize, LogItem), LogFault>
         requires some { 0 < length part.now }
         requires few { self.old.number + length part.now ≤ MOST_BYTES + 1 }

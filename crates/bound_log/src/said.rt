@@ -7,7 +7,7 @@ ghost use Rattle.bound_log.specs.Pieces.{wrong_at};
 
 use crate::head::version;
 use crate::line::{read_column, read_entry};
-use crate::{Entry, LogFault, LogItem, LogPlace, LogStep};
+use crate::{Ending, Entry, LogFault, LogItem, LogPlace, LogStep};
 use cell_num::Name;
 use log_lines::{is_named, is_word};
 use row_state::Kinds;
@@ -50,11 +50,11 @@ fn entry_said(entry: Option<Entry>, fault: LogFault) -> Result<Said, LogFault>
             item: LogItem::Lemma(lemma),
             next: LogPlace::Lemmas,
         }),
-        Some(Entry::Gaps(gaps)) => Ok(Said {
+        Some(Entry::Ending(Ending::Gaps(gaps))) => Ok(Said {
             item: LogItem::Gaps(gaps),
             next: LogPlace::Columns,
         }),
-        Some(Entry::Open) => Ok(Said {
+        Some(Entry::Ending(Ending::Open)) => Ok(Said {
             item: LogItem::Open,
             next: LogPlace::End,
         }),

@@ -1,12 +1,12 @@
 ghost use Rattle.std.specs.Prelude.{◌≡◌, ◌≤◌, ◌<◌, ◌+◌, ◌∷◌, ◌++◌, OnErr, OnOk, decimal, length};
 ghost use Rattle.bound_log.specs.Text.{column_line, counts_text, end_text, flip_text, gaps_line, head_lines};
-ghost use Rattle.bound_log.specs.Text.{lemma_line, more_counts_text, rule_text, side_text};
+ghost use Rattle.bound_log.specs.Text.{lemma_line, more_counts_text, rule_text, side_text, state_text};
 
 use crate::out::Out;
 use crate::{Lemma, LogStep, Rule};
-use cell_num::{Name, NetNo, NoMemory};
+use cell_num::{Bytes, Name, NetNo, NoMemory};
 use itoa::Buffer;
-use row_state::{Counts, Side};
+use row_state::{Counts, Side, State};
 
 // Most numbers of a log have one digit.
 #[tactic(auto, using(std::proofs::lemmas::Fmt::decimal_digit))]
@@ -81,6 +81,28 @@ fn put_end<O: Out>(out: &mut O, end: &Option<NetNo>) -> Result<(), NoMemory>
     }
 }
 
+pub(crate) fn put_state_to<O: Out>(out: &mut O, state: &State) -> Result<(), NoMemory>
+    ensures text { OnOk result (O.text out.new ≡ O.text out.old ++ state_text state.now) }
+    ensures left { OnOk result (O.room out.old ≤ O.room out.new + length (state_text state.now)) }
+    ensures full { OnErr result (O.room out.old < length (state_text state.now)) }
+{
+    put_counts(out, &state.p_left)?;
+    out.put(b" ")?;
+    put_counts(out, &state.n_left)?;
+    out.put(b" ")?;
+    put_end(out, &state.p_end)?;
+    out.put(b" ")?;
+    put_end(out, &state.n_end)?;
+    Ok(())
+}
+
+/// Writes the four words of a state: the counts left of each row, and the open end of each.
+pub fn put_state(out: &mut Bytes, state: &State) -> Result<(), NoMemory>
+    ensures { OnOk result (out.new ≡ out.old ++ state_text state.now) }
+{
+    put_state_to(out, state)
+}
+
 pub(crate) fn put_lemma<O: Out>(out: &mut O, lemma: &Lemma) -> Result<(), NoMemory>
     ensures text { OnOk result (O.text out.new ≡ O.text out.old ++ lemma_line lemma.now) }
     ensures full { OnErr result (O.room out.old < length (lemma_line lemma.now)) }
@@ -90,13 +112,7 @@ pub(crate) fn put_lemma<O: Out>(out: &mut O, lemma: &Lemma) -> Result<(), NoMemo
     out.put(b" ")?;
     out.put(rule_word(lemma.rule))?;
     out.put(b" ")?;
-    put_counts(out, &lemma.state.p_left)?;
-    out.put(b" ")?;
-    put_counts(out, &lemma.state.n_left)?;
-    out.put(b" ")?;
-    put_end(out, &lemma.state.p_end)?;
-    out.put(b" ")?;
-    put_end(out, &lemma.state.n_end)?;
+    put_state_to(out, &lemma.state)?;
     out.put(b"\n")?;
     Ok(())
 }

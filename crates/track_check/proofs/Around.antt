@@ -9,7 +9,7 @@ use Rattle.row_trails.specs.Counts.{entry, flag}
 use Rattle.row_state.specs.declared.kind.Kinds.{Kinds}
 use Rattle.row_state.specs.declared.state.State.{State}
 use Rattle.row_state.specs.Start.{start_of}
-use Rattle.track_ways.specs.Lines.{is_rail}
+use Rattle.cell_num.specs.Pins.{is_rail}
 use Rattle.track_ways.proofs.LineParts.{same_tests}
 use Rattle.track_ways.specs.Paths.{EndsFit}
 use Rattle.track_ways.specs.States.{is_behind, is_open_at, is_still_ahead, touched_here, touched_left}

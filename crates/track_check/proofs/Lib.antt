@@ -3,6 +3,5 @@ pub mod Certified
 pub mod Counting
 pub mod Failing
 pub mod Listed
-pub mod Loops
 pub mod NotAccepted
 pub mod Noted

@@ -1,4 +1,4 @@
-ghost use Rattle.std.specs.Prelude.{ℕ, ◌≡◌, ◌≢◌, ◌≤◌, IfErr, IfOk, length, List as Sequence};
+ghost use Rattle.std.specs.Prelude.{ℕ, ◌≡◌, ◌≢◌, ◌≤◌, ◌<◌, IfErr, IfOk, Ok, length, List as Sequence};
 ghost use Rattle.cell_num.specs.declared.finger.Fingers.{Fingers};
 ghost use Rattle.row_model.specs.declared.column.Column.{Column};
 ghost use Rattle.row_model.specs.Arrangement.{IsArrangement};
@@ -13,7 +13,8 @@ ghost use Rattle.track_check.specs.declared.accept.TracksProved.{TracksProved as
 ghost use Rattle.track_check.specs.declared.rejected.TextRejected.TheVariants as because;
 ghost use Rattle.track_check.specs.Accepted.{IsAccepted, Rejects};
 
-use crate::{TextRejected, TracksRefused, check_tracks};
+use crate::TextRejected;
+use crate::certify::certify;
 use bound_log::LogFault;
 use cell_num::{MOST_BYTES, Name, Pins};
 use row_state::{Kinds, RowBound};
@@ -58,27 +59,11 @@ fn judge<B: RowBound>(
         Ok(certificate) => certificate,
         Err(fault) => return Err(because_of(fault)),
     };
-    let proved = TracksProved {
+    certify(alloc, bound, pins, kinds, &certificate)?;
+    Ok(TracksProved {
         gaps: certificate.gaps,
         tracks: certificate.tracks,
-    };
-    let limit = proved.tracks - 1;
-    match check_tracks(
-        alloc,
-        bound,
-        pins,
-        limit,
-        kinds,
-        proved.gaps,
-        &certificate.lemmas,
-    ) {
-        Ok(()) => Ok(proved),
-        Err(TracksRefused::Unjustified { at }) => Err(TextRejected::Unjustified {
-            line: at as u32 + 5,
-        }),
-        Err(TracksRefused::NoStart) => Err(TextRejected::NoStart),
-        Err(TracksRefused::NoMemory) => Err(TextRejected::NoMemory),
-    }
+    })
 }
 
 /// Checks the text of a certificate of tracks, for the cell of that name and the kinds of its fingers: it is read, and

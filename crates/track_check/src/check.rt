@@ -17,8 +17,9 @@ ghost use Rattle.track_check.specs.Noted.{AreNoted};
 ghost use Rattle.track_check.specs.Refusal.{IsFirstUnjustified, Refuses};
 ghost use Rattle.track_check.specs.Touches.{AreTouches};
 
-use crate::{NotedLemmas, Places, TrackGrounds, TracksRefused, is_justified, touches};
+use crate::{NotedLemmas, TrackGrounds, TracksRefused, is_justified, touches};
 use cell_num::{NoMemory, Pins};
+use row_cycles::Places;
 use row_state::{Kinds, Numbered, RowBound, candidates, code, start};
 use std::alloc::Global;
 use track_ways::{TrackLemma, TrackLemmas};

@@ -1,34 +1,13 @@
-// Whether a state with tracks is refuted: it needs more gaps, or an earlier lemma is about it.
-ghost use Rattle.std.specs.Prelude.{◌≡◌, ◌<◌, ◌↔◌, All, Any, Contains, IsTrue, false};
+// Whether an earlier lemma is about a state with tracks.
+ghost use Rattle.std.specs.Prelude.{◌≡◌, ◌↔◌, All, Any, Contains, IsTrue, false};
 ghost use Rattle.std.specs.List.{list_all, list_any};
-ghost use Rattle.row_state.specs.Start.{IsState};
-ghost use Rattle.track_ways.specs.Certificate.{NeedsMore};
 ghost use Rattle.track_ways.specs.Checked.{CoversListed};
 ghost use Rattle.track_check.specs.Noted.{AreNotedAt, IsPassed};
 ghost use Rattle.track_check.specs.Steps.{is_track};
 
-use crate::Places;
-use cell_num::Row;
-use row_state::{Kinds, Numbered, RowBound, State};
+use row_cycles::Places;
+use row_state::{Numbered, State};
 use track_ways::{NetTrack, NetTracks, TrackLemma};
-
-fn is_above<B: RowBound>(bound: &B, row: Row, kinds: &Kinds, state: &State, gaps: u32) -> bool
-    requires state { IsState kinds.now state.now }
-    ensures { IsTrue result ↔ (gaps < B.value bound.now row state.now kinds.now) }
-{
-    gaps < bound.bound(row, state, kinds)
-}
-
-/// Whether the bound of a row is above the gaps: each completion of the state has more.
-pub fn needs_more<B: RowBound>(bound: &B, kinds: &Kinds, state: &State, gaps: u32) -> bool
-    requires state { IsState kinds.now state.now }
-    ensures { IsTrue result ↔ NeedsMore (B.value bound.now) kinds.now state.now gaps }
-{
-    if is_above(bound, Row::P, kinds, state, gaps) {
-        return true;
-    }
-    is_above(bound, Row::N, kinds, state, gaps)
-}
 
 fn is_same(a: &State, b: &State) -> bool
     ensures { IsTrue result ↔ (a.now ≡ b.now) }
@@ -76,7 +55,7 @@ pub struct NotedLemmas<'a> {
 }
 
 // Whether the lemma at the place is about the state, as many gaps and the way.
-#[tactic(auto, using(crate::proofs::Noted::covered_at, crate::proofs::Noted::passed_at))]
+#[tactic(auto, using(crate::proofs::Noted::covered_there, crate::proofs::Noted::passed_there))]
 fn is_covered_at(
     lemmas: &[TrackLemma],
     at: usize,

@@ -12,8 +12,9 @@ ghost use Rattle.track_check.specs.Touches.{AreTouches};
 
 use crate::steps::steps_fail;
 use crate::valid::is_valid;
-use crate::{NotedLemmas, needs_more, state_nets, touches};
+use crate::{NotedLemmas, state_nets, touches};
 use cell_num::{NoMemory, Pins};
+use row_cycles::needs_more;
 use row_state::{Candidates, Kinds, Numbered, RowBound, State, has_fingers, is_state};
 use row_trails::NETS;
 use std::alloc::Global;

@@ -3,12 +3,12 @@
 #![tactic(auto)]
 
 mod accept;
+mod certify;
 pub mod check;
 pub mod counts;
 pub mod known;
 pub mod lemma;
 pub mod nets;
-pub mod places;
 mod refused;
 mod rejected;
 mod steps;
@@ -17,9 +17,8 @@ mod valid;
 pub use accept::{TracksProved, check_text};
 pub use check::check_tracks;
 pub use counts::touches;
-pub use known::{NotedLemmas, lists, needs_more};
+pub use known::{NotedLemmas, lists};
 pub use lemma::{TrackGrounds, is_justified};
 pub use nets::{StateNets, ends_fit, nets_ahead, state_nets};
-pub use places::Places;
 pub use refused::TracksRefused;
 pub use rejected::TextRejected;

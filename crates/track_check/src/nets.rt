@@ -4,7 +4,7 @@ ghost use Rattle.row_trails.specs.Counts.{entry, flag};
 ghost use Rattle.row_state.specs.declared.kind.Kinds.{Kinds as KindsOf};
 ghost use Rattle.row_state.specs.declared.state.State.{State as StateOf};
 ghost use Rattle.row_state.specs.Start.{start_of};
-ghost use Rattle.track_ways.specs.Lines.{is_rail};
+ghost use Rattle.cell_num.specs.Pins.{is_rail};
 ghost use Rattle.track_ways.specs.Paths.{EndsFit};
 ghost use Rattle.track_ways.specs.States.{is_open_at, is_still_ahead};
 ghost use Rattle.track_ways.specs.Tables.{marked};
@@ -12,7 +12,7 @@ ghost use Rattle.track_check.specs.Touches.{AreNetsOf, AreTouches};
 
 use cell_num::{NetNo, Pins};
 use row_trails::NETS;
-use track_ways::{is_marked, is_rail};
+use track_ways::is_marked;
 
 /// The nets with a place before the last node line of a state, and those with one at that line or later, by number.
 #[derive(Clone, Copy, Debug)]
@@ -80,7 +80,7 @@ fn is_passed(nets: &StateNets, net: NetNo) -> bool
 fn is_open_in(nets: &StateNets, pins: &Pins, net: NetNo) -> bool
     ensures { result ≡ (not (is_rail pins.now net) && (marked nets.now.before net && marked nets.now.ahead net)) }
 {
-    !is_rail(pins, net) && is_passed(nets, net)
+    !pins.is_rail(net) && is_passed(nets, net)
 }
 
 impl StateNets {

@@ -8,8 +8,9 @@ ghost use Rattle.track_ways.specs.Tables.{marked};
 ghost use Rattle.track_check.specs.Noted.{AreNoted};
 ghost use Rattle.track_check.specs.Steps.{StepFailsListed, WaysFail};
 
-use crate::{NotedLemmas, TrackGrounds, needs_more, nets_ahead, touches};
+use crate::{NotedLemmas, TrackGrounds, nets_ahead, touches};
 use cell_num::NoMemory;
+use row_cycles::needs_more;
 use row_state::{Candidate, Numbered, RowBound};
 use row_trails::NETS;
 use std::alloc::Global;

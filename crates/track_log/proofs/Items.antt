@@ -1,5 +1,5 @@
--- Lists of counts and of tracks, written and read.
-use Rattle.std.specs.Prelude.{ℕ, zero, suc, ◌≡◌, ◌-◌, ◌/◌, ◌%◌, ◌<◌, ◌≤◌, ◌==◌, false, true, Bool, cond, List, [], ◌∷◌, ◌++◌, Some, None, All, IsTrue, length, map, take, drop, get_or, flat_map, decimal}
+-- Lists of tracks, and of nets above others, written and read.
+use Rattle.std.specs.Prelude.{ℕ, zero, suc, ◌≡◌, ◌-◌, ◌/◌, ◌%◌, ◌<◌, ◌≤◌, ◌==◌, false, true, Bool, cond, List, [], ◌∷◌, ◌++◌, Option, Some, None, All, IsTrue, length, map, take, drop, get_or, flat_map, decimal}
 use Rattle.std.proofs.Common.{refl, sym, ap, subst, arith, ◌∙◌}
 use Rattle.std.specs.Fmt.{digit_glyph, digits, digits_onto}
 use Rattle.std.specs.List.{join_with_byte}
@@ -16,11 +16,13 @@ use Rattle.bound_log.proofs.Spelled.{bound, cons_same, is_provided}
 use Rattle.trail_log.specs.Listed.{list_in, net_in}
 use Rattle.trail_log.specs.Order.{increases}
 use Rattle.trail_log.specs.Spelling.{list_text}
-use Rattle.trail_log.proofs.Items.{ReadsAgain, ReadsOnly, Spares, joined_parts, list_above, list_again, list_only, net_again, net_only}
+use Rattle.trail_log.proofs.Items.{ReadsAgain, ReadsOnly, Spares, joined_parts, list_again, list_only, net_again, net_only}
+use Rattle.row_cycles.specs.declared.above.NetAbove.{NetAbove}
+use Rattle.row_cycles.specs.Above.{HasNets}
 use Rattle.track_ways.specs.declared.track.NetTrack.{NetTrack}
 use Rattle.track_log.specs.Fits.{TrackFits}
-use Rattle.track_log.specs.Line.{track_in, track_of, track_rank, tracks_in}
-use Rattle.track_log.specs.Text.{track_text, tracks_text}
+use Rattle.track_log.specs.Line.{above_in, above_of, ordered_in, track_in, track_of}
+use Rattle.track_log.specs.Text.{above_text, track_text}
 
 -- ---- items one after another
 
@@ -60,14 +62,14 @@ below_decimal : (n : ℕ) → IsBelow 58 (decimal n)
 unfolding digits
 below_decimal n = onto_below 64 n [] (All-nil (λ b. b < 58))
 
-below_lacks : (c : ℕ) (text : List ℕ) → IsBelow c text → Lacks c text
-below_lacks c [] h = All-nil (λ b. (b == c) ≡ false)
-below_lacks c (b ∷ bs) h =
+below_lacks : (c d : ℕ) (text : List ℕ) → c ≤ d → IsBelow c text → Lacks d text
+below_lacks c d [] most h = All-nil (λ b. (b == d) ≡ false)
+below_lacks c d (b ∷ bs) most h =
     let less : b < c = All-head (λ b. b < c) b bs h in
-    All-cons (λ b. (b == c) ≡ false) b bs (ne_eqb b c (λ e. omega (arith, e, less))) (below_lacks c bs (All-tail (λ b. b < c) b bs h))
+    All-cons (λ b. (b == d) ≡ false) b bs (ne_eqb b d (λ e. omega (arith, e, less, most))) (below_lacks c d bs most (All-tail (λ b. b < c) b bs h))
 
 no_colon : (n : ℕ) → Lacks 58 (decimal n)
-no_colon n = below_lacks 58 (decimal n) (below_decimal n)
+no_colon n = below_lacks 58 58 (decimal n) (omega arith) (below_decimal n)
 
 -- ---- a net and its track
 
@@ -83,12 +85,12 @@ track_words nets (a ∷ b ∷ []) t h =
     subst (λ (x : NetTrack). ((a ∷ b ∷ []) ≡ decimal x.net.0 ∷ decimal x.track ∷ []) × TrackFits nets x) (same_Some (record { net = net.0; track = track.0 }) t track.2)
     (cons_same _ _ _ _ net_is.0 (cons_same _ _ _ _ track_is.0 refl), record { net = net_is.1; track = track_is.1 })
 
-track_only : (nets : ℕ) → ReadsOnly (track_in nets) track_text (TrackFits nets)
+pub track_only : (nets : ℕ) → ReadsOnly (track_in nets) track_text (TrackFits nets)
 track_only nets word t h =
     let read = track_words nets (parts_at 58 word) t h in
     (joined_parts 58 word (decimal t.net.0 ∷ decimal t.track ∷ []) read.0, read.1)
 
-track_again : (nets : ℕ) → nets ≤ 256 → ReadsAgain (track_in nets) track_text (TrackFits nets)
+pub track_again : (nets : ℕ) → nets ≤ 256 → ReadsAgain (track_in nets) track_text (TrackFits nets)
 track_again nets few t fits =
     ap (track_of nets) (split_joined 58 (decimal t.net.0) (decimal t.track ∷ []) (no_colon t.net.0) (All-cons (Lacks 58) (decimal t.track) [] (no_colon t.track) (All-nil (Lacks 58))))
     ∙ rw (net_again nets few t.net fits.net, is_below 256 (decimal t.track) t.track refl fits.track (omega arith)) refl
@@ -100,29 +102,71 @@ long_track nets (a ∷ []) many = refl
 long_track nets (a ∷ b ∷ []) many = absurd (omega (arith, many))
 long_track nets (a ∷ b ∷ c ∷ rest) many = refl
 
--- digits and the colon
-track_above : (c : ℕ) (t : NetTrack) → c ≤ 47 → IsAbove c (track_text t)
-track_above c t few =
-    All-append (λ b. c < b) (decimal t.net.0) (58 ∷ decimal t.track) (above_more 47 c (decimal t.net.0) few (above_decimal t.net.0))
-    (All-cons (λ b. c < b) 58 (decimal t.track) (omega (arith, few)) (above_more 47 c (decimal t.track) few (above_decimal t.track)))
+-- ---- a net above another
 
-track_lacks : (c : ℕ) → c ≤ 47 → Spares c track_text
+above_words : (nets : ℕ) (words : List (List ℕ)) (a : NetAbove) → above_of nets words ≡ Some a → (words ≡ decimal a.upper.0 ∷ decimal a.lower.0 ∷ []) × HasNets nets a
+above_words nets [] a h = absurd (none-some a h)
+above_words nets (u ∷ []) a h = absurd (none-some a h)
+above_words nets (u ∷ l ∷ m ∷ rest) a h = absurd (none-some a h)
+above_words nets (u ∷ l ∷ []) a h =
+    let upper = bound (net_in nets u) _ a h in
+    let lower = bound (net_in nets l) _ a upper.2 in
+    let upper_is = net_only nets u upper.0 upper.1 in
+    let lower_is = net_only nets l lower.0 lower.1 in
+    subst (λ (x : NetAbove). ((u ∷ l ∷ []) ≡ decimal x.upper.0 ∷ decimal x.lower.0 ∷ []) × HasNets nets x) (same_Some (record { upper = upper.0; lower = lower.0 }) a lower.2)
+    (cons_same _ _ _ _ upper_is.0 (cons_same _ _ _ _ lower_is.0 refl), (upper_is.1, lower_is.1))
+
+pub above_only : (nets : ℕ) → ReadsOnly (above_in nets) above_text (HasNets nets)
+above_only nets word a h =
+    let read = above_words nets (parts_at 62 word) a h in
+    (joined_parts 62 word (decimal a.upper.0 ∷ decimal a.lower.0 ∷ []) read.0, read.1)
+
+no_greater : (n : ℕ) → Lacks 62 (decimal n)
+no_greater n = below_lacks 58 62 (decimal n) (omega arith) (below_decimal n)
+
+pub above_again : (nets : ℕ) → nets ≤ 256 → ReadsAgain (above_in nets) above_text (HasNets nets)
+above_again nets few a fits =
+    ap (above_of nets) (split_joined 62 (decimal a.upper.0) (decimal a.lower.0 ∷ []) (no_greater a.upper.0) (All-cons (Lacks 62) (decimal a.lower.0) [] (no_greater a.lower.0) (All-nil (Lacks 62))))
+    ∙ rw (net_again nets few a.upper fits.0, net_again nets few a.lower fits.1) refl
+
+-- more words than two nets
+pub long_above : (nets : ℕ) (words : List (List ℕ)) → 2 < length words → above_of nets words ≡ None
+long_above nets [] many = refl
+long_above nets (a ∷ []) many = refl
+long_above nets (a ∷ b ∷ []) many = absurd (omega (arith, many))
+long_above nets (a ∷ b ∷ c ∷ rest) many = refl
+
+-- ---- written items have digits, and a byte above them
+
+-- two numbers, with a byte between
+pub pair_above : (c between m n : ℕ) → c ≤ 47 → 47 < between → IsAbove c (decimal m ++ (between ∷ decimal n))
+pair_above c between m n few high =
+    All-append (λ b. c < b) (decimal m) (between ∷ decimal n) (above_more 47 c (decimal m) few (above_decimal m))
+    (All-cons (λ b. c < b) between (decimal n) (omega (arith, few, high)) (above_more 47 c (decimal n) few (above_decimal n)))
+
+pub track_above : (c : ℕ) (t : NetTrack) → c ≤ 47 → IsAbove c (track_text t)
+track_above c t few = pair_above c 58 t.net.0 t.track few (omega arith)
+
+pub above_above : (c : ℕ) (a : NetAbove) → c ≤ 47 → IsAbove c (above_text a)
+above_above c a few = pair_above c 62 a.upper.0 a.lower.0 few (omega arith)
+
+pub track_lacks : (c : ℕ) → c ≤ 47 → Spares c track_text
 track_lacks c few t = above_lacks 47 c (track_text t) few (track_above 47 t (omega arith))
 
--- ---- lists of them
+pub above_spares : (c : ℕ) → c ≤ 47 → Spares c above_text
+above_spares c few a = above_lacks 47 c (above_text a) few (above_above 47 a (omega arith))
 
-pub tracks_only : (nets : ℕ) (word : List ℕ) (tracks : List NetTrack) → tracks_in nets word ≡ Some tracks → (word ≡ tracks_text tracks) × All (TrackFits nets) tracks × IsTrue (increases track_rank tracks)
-unfolding tracks_in
-tracks_only nets word tracks h =
-    let found = bound (list_in 44 (track_in nets) word) _ tracks h in
-    let rising = is_provided (increases track_rank found.0) _ tracks found.2 in
-    let read = list_only 44 (track_in nets) track_text (TrackFits nets) word found.0 (track_only nets) found.1 in
-    subst (λ (ts : List NetTrack). (word ≡ tracks_text ts) × All (TrackFits nets) ts × IsTrue (increases track_rank ts)) (same_Some found.0 tracks rising.1) (read.0, read.1, rising.0)
+-- ---- lists in order
 
-pub tracks_again : (nets : ℕ) (tracks : List NetTrack) → nets ≤ 256 → All (TrackFits nets) tracks → IsTrue (increases track_rank tracks) → tracks_in nets (tracks_text tracks) ≡ Some tracks
-unfolding tracks_in
-tracks_again nets tracks few fits order =
-    rw (list_again 44 (track_in nets) track_text (TrackFits nets) tracks refl (track_again nets few) (track_lacks 44 (omega arith)) (track_lacks 45 (omega arith)) fits, order) refl
+pub ordered_only : {A : Type 0} (read : List ℕ → Option A) (rank : A → ℕ) (write : A → List ℕ) (Good : A → Type 0) (word : List ℕ) (items : List A) → ReadsOnly read write Good → ordered_in read rank word ≡ Some items → (word ≡ list_text 44 (map write items)) × All Good items × IsTrue (increases rank items)
+unfolding ordered_in
+ordered_only {A = A} read rank write Good word items only h =
+    let found = bound (list_in 44 read word) _ items h in
+    let rising = is_provided (increases rank found.0) _ items found.2 in
+    let listed = list_only 44 read write Good word found.0 only found.1 in
+    subst (λ (xs : List A). (word ≡ list_text 44 (map write xs)) × All Good xs × IsTrue (increases rank xs)) (same_Some found.0 items rising.1) (listed.0, listed.1, rising.0)
 
-pub tracks_above : (tracks : List NetTrack) → IsAbove 32 (tracks_text tracks)
-tracks_above tracks = list_above track_text tracks (λ t. track_above 32 t (omega arith))
+pub ordered_again : {A : Type 0} (read : List ℕ → Option A) (rank : A → ℕ) (write : A → List ℕ) (Good : A → Type 0) (items : List A) → ReadsAgain read write Good → Spares 44 write → Spares 45 write → All Good items → IsTrue (increases rank items) → ordered_in read rank (list_text 44 (map write items)) ≡ Some items
+unfolding ordered_in
+ordered_again read rank write Good items again commas dashes fits order =
+    rw (list_again 44 read write Good items refl again commas dashes fits, order) refl

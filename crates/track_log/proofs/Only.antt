@@ -17,14 +17,17 @@ use Rattle.bound_log.specs.Fits.{IsLogName}
 use Rattle.bound_log.specs.Reading.{end_at}
 use Rattle.bound_log.specs.Text.{gaps_line}
 use Rattle.bound_log.proofs.Only.{err-ok, line_of_words, same_Ok, text_cons}
+use Rattle.row_cycles.specs.declared.lemma.CycleLemma.{CycleLemma}
+use Rattle.row_cycles.specs.Fits.{CycleFits}
 use Rattle.track_ways.specs.declared.lemma.TrackLemma.{TrackLemma}
 use Rattle.track_log.specs.declared.certificate.TrackCertificate.{TrackCertificate}
 use Rattle.track_log.specs.Fits.{CertificateFits, LemmaFits}
-use Rattle.track_log.specs.Line.{count_in, gaps_in, lemma_in}
-use Rattle.track_log.specs.Reading.{certificate_of, count_at, gaps_at, lemmas_at, named_at, text_at}
-use Rattle.track_log.specs.Text.{certificate_text, lemma_line, tracks_line, version_line}
+use Rattle.track_log.specs.Line.{count_in, cycle_in, gaps_in, lemma_in}
+use Rattle.track_log.specs.Reading.{begun_by, certificate_of, count_at, cycles_at, gaps_at, lemmas_at, named_at, text_at}
+use Rattle.track_log.specs.Text.{certificate_text, cycle_line, lemma_line, tracks_line, version_line}
+use Rattle.track_log.proofs.Fronts.{without_cycles}
 use Rattle.track_log.proofs.Whole.{read_again, text_apart}
-use Rattle.track_log.proofs.Words.{count_joined, count_only, gaps_joined, gaps_only, lemma_joined, lemma_only, lemma_words}
+use Rattle.track_log.proofs.Words.{count_joined, count_only, cycle_joined, cycle_only, cycle_words, gaps_joined, gaps_only, lemma_joined, lemma_only, lemma_words}
 
 bound_ok : {A B E : Type 0} (r : Result A E) (f : A → Result B E) (b : B) → (r >>= f) ≡ Ok b → (a : A) × (r ≡ Ok a) × (f a ≡ Ok b)
 bound_ok (Ok a) f b h = (a, refl, h)
@@ -91,20 +94,49 @@ lemmas_only k n (line ∷ lines) rest lemmas some h =
 
 -- the text of the last lines
 abbrev rest_text : TrackCertificate → List ℕ
-rest_text c = flat_map lemma_line c.lemmas ++ codes "end\n"
+rest_text c = flat_map cycle_line c.cycles ++ (flat_map lemma_line c.lemmas ++ codes "end\n")
+
+-- the lines are those of the certificate's lemmas, and `end`
+abbrev AreRest : ℕ → ℕ → Kinds → List (List ℕ) → List ℕ → TrackCertificate → Type 0
+AreRest gaps tracks k lines rest c =
+    (lines_text lines rest ≡ rest_text c) × All (CycleFits k) c.cycles × All (LemmaFits k) c.lemmas × (c.gaps ≡ gaps) × (c.tracks ≡ tracks)
+
+-- the first of the lines is one of a lemma on cycles, or the lemmas on tracks begin there
+rest_read : (gaps tracks : ℕ) (k : Kinds) (n : ℕ) (line : List ℕ) (lines : List (List ℕ)) (rest : List ℕ) (c : TrackCertificate) (o : Option CycleLemma) → AreSomeKinds k → cycle_in k (words_in line) ≡ o → begun_by o (cycles_at gaps tracks k (n + 1) lines rest) (without_cycles gaps tracks (lemmas_at k n (line ∷ lines) rest)) ≡ Ok c → ((later : TrackCertificate) → cycles_at gaps tracks k (n + 1) lines rest ≡ Ok later → AreRest gaps tracks k lines rest later) → AreRest gaps tracks k (line ∷ lines) rest c
+rest_read gaps tracks k n line lines rest c None some is h more =
+    let lemmas = bound_ok (lemmas_at k n (line ∷ lines) rest) _ c h in
+    let later = lemmas_only k n (line ∷ lines) rest lemmas.0 some lemmas.1 in
+    subst (AreRest gaps tracks k (line ∷ lines) rest) (same_Ok (record { gaps = gaps; tracks = tracks; cycles = []; lemmas = lemmas.0 }) c lemmas.2)
+    (later.0, All-nil (CycleFits k), later.1, refl, refl)
+rest_read gaps tracks k n line lines rest c (Some cycle) some is h more =
+    let later = bound_ok (cycles_at gaps tracks k (n + 1) lines rest) _ c h in
+    let others = more later.0 later.1 in
+    let one = cycle_only k (words_in line) cycle some is in
+    let here : fed line ≡ cycle_line cycle = line_of_words line (codes "cycle" ∷ cycle_words cycle) one.0 ∙ cycle_joined cycle in
+    subst (AreRest gaps tracks k (line ∷ lines) rest) (same_Ok (record { gaps = later.0.gaps; tracks = later.0.tracks; cycles = cycle ∷ later.0.cycles; lemmas = later.0.lemmas }) c later.2) (
+      before line lines rest (cycle_line cycle) (rest_text later.0) here others.0 ∙ sym (append_assoc (cycle_line cycle) (flat_map cycle_line later.0.cycles) (flat_map lemma_line later.0.lemmas ++ codes "end\n")),
+      All-cons (CycleFits k) cycle later.0.cycles one.1 others.1,
+      others.2,
+      others.3,
+      others.4,
+    )
+
+cycles_only : (gaps tracks : ℕ) (k : Kinds) (n : ℕ) (lines : List (List ℕ)) (rest : List ℕ) (c : TrackCertificate) → AreSomeKinds k → cycles_at gaps tracks k n lines rest ≡ Ok c → AreRest gaps tracks k lines rest c
+unfolding cycles_at
+cycles_only gaps tracks k n [] rest c some h = absurd (err-ok fault.Cut c h)
+cycles_only gaps tracks k n (line ∷ lines) rest c some h =
+    rest_read gaps tracks k n line lines rest c (cycle_in k (words_in line)) some refl h (λ later is. cycles_only gaps tracks k (n + 1) lines rest later some is)
 
 count_read : (gaps : ℕ) (k : Kinds) (lines : List (List ℕ)) (rest : List ℕ) (c : TrackCertificate) → AreSomeKinds k → gaps < 64 → count_at gaps k lines rest ≡ Ok c → (lines_text lines rest ≡ tracks_line c.tracks ++ rest_text c) × CertificateFits k c × (c.gaps ≡ gaps)
 count_read gaps k [] rest c some few h = absurd (err-ok fault.Cut c h)
 count_read gaps k (line ∷ lines) rest c some few h =
     let first = bound_ok (or_fault (count_in (words_in line)) (fault.Line 4)) _ c h in
     let spelled = count_only (words_in line) first.0 (there (count_in (words_in line)) (fault.Line 4) first.0 first.1) in
-    let lemmas = bound_ok (lemmas_at k 5 lines rest) _ c first.2 in
-    let later = lemmas_only k 5 lines rest lemmas.0 some lemmas.1 in
-    let here : fed line ≡ tracks_line first.0 = line_of_words line (codes "tracks" ∷ decimal first.0 ∷ []) spelled.0 ∙ count_joined first.0 in
-    subst (λ (x : TrackCertificate). (lines_text (line ∷ lines) rest ≡ tracks_line x.tracks ++ rest_text x) × CertificateFits k x × (x.gaps ≡ gaps)) (same_Ok (record { gaps = gaps; tracks = first.0; lemmas = lemmas.0 }) c lemmas.2) (
-      before line lines rest (tracks_line first.0) (flat_map lemma_line lemmas.0 ++ codes "end\n") here later.0,
-      record { gaps = omega (arith, few); some = spelled.1; few = omega (arith, spelled.2); lemmas = later.1 },
-      refl,
+    let later = cycles_only gaps first.0 k 5 lines rest c some first.2 in
+    let here : fed line ≡ tracks_line c.tracks = line_of_words line (codes "tracks" ∷ decimal first.0 ∷ []) spelled.0 ∙ (count_joined first.0 ∙ ap tracks_line (sym later.4)) in (
+      before line lines rest (tracks_line c.tracks) (rest_text c) here later.0,
+      record { gaps = omega (arith, few, later.3); some = omega (arith, spelled.1, later.4); few = omega (arith, spelled.2, later.4); cycles = later.1; lemmas = later.2 },
+      later.3,
     )
 
 gaps_read : (k : Kinds) (lines : List (List ℕ)) (rest : List ℕ) (c : TrackCertificate) → AreSomeKinds k → gaps_at k lines rest ≡ Ok c → (lines_text lines rest ≡ gaps_line c.gaps ++ (tracks_line c.tracks ++ rest_text c)) × CertificateFits k c

@@ -1,5 +1,5 @@
 -- The whole text of a certificate that fits is read again.
-use Rattle.std.specs.Prelude.{ℕ, ◌≡◌, ◌≢◌, ◌+◌, ◌<◌, ◌≤◌, ◌==◌, false, List, [], ◌∷◌, ◌++◌, Some, Ok, Err, All, length, codes, decimal}
+use Rattle.std.specs.Prelude.{ℕ, ◌≡◌, ◌≢◌, ◌+◌, ◌<◌, ◌≤◌, ◌==◌, false, List, [], ◌∷◌, ◌++◌, Some, None, Ok, Err, All, length, codes, decimal}
 use Rattle.std.proofs.Common.{refl, sym, ap, arith, ◌∙◌}
 use Rattle.std.specs.List.{flat_map, join_with_byte}
 use Rattle.std.proofs.lemmas.Bool.{ne_eqb}
@@ -17,13 +17,16 @@ use Rattle.bound_log.specs.Text.{gaps_line}
 use Rattle.bound_log.proofs.Again.{by_test, words_again, words_lack}
 use Rattle.bound_log.proofs.Only.{err-ok}
 use Rattle.bound_log.proofs.Whole.{fed_first}
+use Rattle.row_cycles.specs.declared.lemma.CycleLemma.{CycleLemma}
+use Rattle.row_cycles.specs.Fits.{CycleFits}
 use Rattle.track_ways.specs.declared.lemma.TrackLemma.{TrackLemma}
 use Rattle.track_log.specs.declared.certificate.TrackCertificate.{TrackCertificate}
 use Rattle.track_log.specs.Fits.{CertificateFits, LemmaFits}
-use Rattle.track_log.specs.Line.{count_in, gaps_in, lemma_in}
-use Rattle.track_log.specs.Reading.{certificate_of, count_at, gaps_at, lemmas_at, named_at, text_at}
-use Rattle.track_log.specs.Text.{certificate_text, head_lines, lemma_line, tracks_line, version_line}
-use Rattle.track_log.proofs.Words.{count_above, count_again, count_joined, gaps_above, gaps_again, gaps_joined, lemma_above, lemma_again, lemma_joined, lemma_words}
+use Rattle.track_log.specs.Line.{count_in, cycle_in, gaps_in, lemma_in}
+use Rattle.track_log.specs.Reading.{certificate_of, count_at, cycles_at, gaps_at, lemmas_at, named_at, text_at}
+use Rattle.track_log.specs.Text.{certificate_text, cycle_line, head_lines, lemma_line, tracks_line, version_line}
+use Rattle.track_log.proofs.Fronts.{without_cycles}
+use Rattle.track_log.proofs.Words.{count_above, count_again, count_joined, cycle_above, cycle_again, cycle_joined, cycle_words, fields_words, gaps_above, gaps_again, gaps_joined, lemma_above, lemma_again, lemma_joined, lemma_words, no_cycle}
 
 fed_behind : (line text : List ℕ) → Lacks 10 line → behind (fed line ++ text) ≡ behind text
 fed_behind line text lack = ap behind (append_assoc line (10 ∷ []) text) ∙ line_behind line text lack
@@ -39,7 +42,7 @@ unfolding lemmas_at lines_in behind
 end_again k n = refl
 
 not_end : (lemma : TrackLemma) → is_word (join_with_byte 32 (codes "lemma" ∷ lemma_words lemma)) (codes "end") ≡ false
-unfolding lemma_words
+unfolding fields_words
 not_end lemma = refl
 
 lemmas_front : (lemma : TrackLemma) (lemmas : List TrackLemma) (rest : List ℕ) → flat_map lemma_line (lemma ∷ lemmas) ++ rest ≡ fed (join_with_byte 32 (codes "lemma" ∷ lemma_words lemma)) ++ (flat_map lemma_line lemmas ++ rest)
@@ -59,14 +62,64 @@ lemmas_again k n (lemma ∷ lemmas) some h =
     ap (λ (t : List ℕ). lemmas_at k n (lines_in t) (behind t)) whole
     ∙ (rw (fed_first line text lack, fed_behind line text lack) (lemma_step k n line (lines_in text) (behind text) lemma lemmas (not_end lemma) words (lemmas_again k (n + 1) lemmas some (All-tail (LemmaFits k) lemma lemmas h))))
 
+-- ---- lemmas on cycles
+
+cycle_step : (gaps tracks : ℕ) (k : Kinds) (n : ℕ) (line : List ℕ) (lines : List (List ℕ)) (rest : List ℕ) (cycle : CycleLemma) (c : TrackCertificate) → cycle_in k (words_in line) ≡ Some cycle → cycles_at gaps tracks k (n + 1) lines rest ≡ Ok c → cycles_at gaps tracks k n (line ∷ lines) rest ≡ Ok (record { gaps = c.gaps; tracks = c.tracks; cycles = cycle ∷ c.cycles; lemmas = c.lemmas })
+unfolding cycles_at
+cycle_step gaps tracks k n line lines rest cycle c some later = rw (some, later) refl
+
+no_cycles : (gaps tracks : ℕ) (k : Kinds) (n : ℕ) (lines : List (List ℕ)) (rest line : List ℕ) (later : List (List ℕ)) → lines ≡ line ∷ later → cycle_in k (words_in line) ≡ None → cycles_at gaps tracks k n lines rest ≡ without_cycles gaps tracks (lemmas_at k n lines rest)
+unfolding cycles_at
+no_cycles gaps tracks k n lines rest line later is none = rw (is, none) refl
+
+end_line : lines_in (codes "end\n") ≡ codes "end" ∷ []
+unfolding lines_in
+end_line = refl
+
+-- the first line of the lemmas on tracks is not one of a lemma on cycles
+lemmas_first : (k : Kinds) (lemmas : List TrackLemma) → (line : List ℕ) × (later : List (List ℕ)) × (lines_in (flat_map lemma_line lemmas ++ codes "end\n") ≡ line ∷ later) × (cycle_in k (words_in line) ≡ None)
+lemmas_first k [] =
+    let above : All (IsAbove 32) (codes "end" ∷ []) = All-cons (IsAbove 32) (codes "end") [] (by_test 32 (codes "end") refl) (All-nil (IsAbove 32)) in
+    (codes "end", [], end_line, ap (cycle_in k) (words_again (codes "end") [] above))
+lemmas_first k (lemma ∷ lemmas) =
+    let line = join_with_byte 32 (codes "lemma" ∷ lemma_words lemma) in
+    let text = flat_map lemma_line lemmas ++ codes "end\n" in
+    let above : All (IsAbove 32) (codes "lemma" ∷ lemma_words lemma) = lemma_above lemma in
+    let lack : Lacks 10 line = words_lack (codes "lemma" ∷ lemma_words lemma) above in (
+      line,
+      lines_in text,
+      ap lines_in (lemmas_front lemma lemmas (codes "end\n")) ∙ fed_first line text lack,
+      ap (cycle_in k) (words_again (codes "lemma") (lemma_words lemma) above) ∙ no_cycle k lemma,
+    )
+
+cycles_front : (cycle : CycleLemma) (cycles : List CycleLemma) (rest : List ℕ) → flat_map cycle_line (cycle ∷ cycles) ++ rest ≡ fed (join_with_byte 32 (codes "cycle" ∷ cycle_words cycle)) ++ (flat_map cycle_line cycles ++ rest)
+cycles_front cycle cycles rest =
+    append_assoc (cycle_line cycle) (flat_map cycle_line cycles) rest ∙ ap (λ (bs : List ℕ). bs ++ (flat_map cycle_line cycles ++ rest)) (sym (cycle_joined cycle))
+
+cycles_again : (gaps tracks : ℕ) (k : Kinds) (n : ℕ) (cycles : List CycleLemma) (lemmas : List TrackLemma) → AreSomeKinds k → All (CycleFits k) cycles → All (LemmaFits k) lemmas → cycles_at gaps tracks k n (lines_in (flat_map cycle_line cycles ++ (flat_map lemma_line lemmas ++ codes "end\n"))) (behind (flat_map cycle_line cycles ++ (flat_map lemma_line lemmas ++ codes "end\n"))) ≡ Ok (record { gaps = gaps; tracks = tracks; cycles = cycles; lemmas = lemmas })
+cycles_again gaps tracks k n [] lemmas some h g =
+    let text = flat_map lemma_line lemmas ++ codes "end\n" in
+    let first = lemmas_first k lemmas in
+    no_cycles gaps tracks k n (lines_in text) (behind text) first.0 first.1 first.2 first.3 ∙ ap (without_cycles gaps tracks) (lemmas_again k n lemmas some g)
+cycles_again gaps tracks k n (cycle ∷ cycles) lemmas some h g =
+    let line = join_with_byte 32 (codes "cycle" ∷ cycle_words cycle) in
+    let end = flat_map lemma_line lemmas ++ codes "end\n" in
+    let text = flat_map cycle_line cycles ++ end in
+    let fits : CycleFits k cycle = All-head (CycleFits k) cycle cycles h in
+    let above : All (IsAbove 32) (codes "cycle" ∷ cycle_words cycle) = cycle_above cycle in
+    let lack : Lacks 10 line = words_lack (codes "cycle" ∷ cycle_words cycle) above in
+    let words : cycle_in k (words_in line) ≡ Some cycle = ap (cycle_in k) (words_again (codes "cycle") (cycle_words cycle) above) ∙ cycle_again k cycle some fits in
+    ap (λ (t : List ℕ). cycles_at gaps tracks k n (lines_in t) (behind t)) (cycles_front cycle cycles end)
+    ∙ (rw (fed_first line text lack, fed_behind line text lack) (cycle_step gaps tracks k n line (lines_in text) (behind text) cycle (record { gaps = gaps; tracks = tracks; cycles = cycles; lemmas = lemmas }) words (cycles_again gaps tracks k (n + 1) cycles lemmas some (All-tail (CycleFits k) cycle cycles h) g)))
+
 -- ---- the lines before them
 
 other_lack : (text : List ℕ) → All (λ byte. byte ≢ 10) text → Lacks 10 text
 other_lack [] h = All-nil (λ b. (b == 10) ≡ false)
 other_lack (b ∷ bs) h = All-cons (λ b. (b == 10) ≡ false) b bs (ne_eqb b 10 (All-head (λ byte. byte ≢ 10) b bs h)) (other_lack bs (All-tail (λ byte. byte ≢ 10) b bs h))
 
-count_step : (gaps tracks : ℕ) (k : Kinds) (line : List ℕ) (lines : List (List ℕ)) (rest : List ℕ) (lemmas : List TrackLemma) → count_in (words_in line) ≡ Some tracks → lemmas_at k 5 lines rest ≡ Ok lemmas → count_at gaps k (line ∷ lines) rest ≡ Ok (record { gaps = gaps; tracks = tracks; lemmas = lemmas })
-count_step gaps tracks k line lines rest lemmas some later = rw (some, later) refl
+count_step : (gaps tracks : ℕ) (k : Kinds) (line : List ℕ) (lines : List (List ℕ)) (rest : List ℕ) → count_in (words_in line) ≡ Some tracks → count_at gaps k (line ∷ lines) rest ≡ cycles_at gaps tracks k 5 lines rest
+count_step gaps tracks k line lines rest some = rw some refl
 
 gaps_step : (gaps : ℕ) (k : Kinds) (line : List ℕ) (lines : List (List ℕ)) (rest : List ℕ) → gaps_in (words_in line) ≡ Some gaps → gaps_at k (line ∷ lines) rest ≡ count_at gaps k lines rest
 gaps_step gaps k line lines rest some = rw some refl
@@ -74,20 +127,20 @@ gaps_step gaps k line lines rest some = rw some refl
 named_step : (name : List ℕ) (k : Kinds) (line : List ℕ) (lines : List (List ℕ)) (rest : List ℕ) → line ≡ codes "cell " ++ name → named_at name k (line ∷ lines) rest ≡ gaps_at k lines rest
 named_step name k line lines rest is = rw (is_same line (codes "cell " ++ name) is) refl
 
-counted_again : (k : Kinds) (c : TrackCertificate) → AreSomeKinds k → CertificateFits k c → count_at c.gaps k (lines_in (tracks_line c.tracks ++ (flat_map lemma_line c.lemmas ++ codes "end\n"))) (behind (tracks_line c.tracks ++ (flat_map lemma_line c.lemmas ++ codes "end\n"))) ≡ Ok c
+counted_again : (k : Kinds) (c : TrackCertificate) → AreSomeKinds k → CertificateFits k c → count_at c.gaps k (lines_in (tracks_line c.tracks ++ (flat_map cycle_line c.cycles ++ (flat_map lemma_line c.lemmas ++ codes "end\n")))) (behind (tracks_line c.tracks ++ (flat_map cycle_line c.cycles ++ (flat_map lemma_line c.lemmas ++ codes "end\n")))) ≡ Ok c
 counted_again k c some fits =
     let line = join_with_byte 32 (codes "tracks" ∷ decimal c.tracks ∷ []) in
-    let text = flat_map lemma_line c.lemmas ++ codes "end\n" in
+    let text = flat_map cycle_line c.cycles ++ (flat_map lemma_line c.lemmas ++ codes "end\n") in
     let above : All (IsAbove 32) (codes "tracks" ∷ decimal c.tracks ∷ []) = count_above c.tracks in
     let lack : Lacks 10 line = words_lack (codes "tracks" ∷ decimal c.tracks ∷ []) above in
     let words : count_in (words_in line) ≡ Some c.tracks = ap count_in (words_again (codes "tracks") (decimal c.tracks ∷ []) above) ∙ count_again c.tracks fits.some fits.few in
     ap (λ (l : List ℕ). count_at c.gaps k (lines_in (l ++ text)) (behind (l ++ text))) (sym (count_joined c.tracks))
-    ∙ (rw (fed_first line text lack, fed_behind line text lack) (count_step c.gaps c.tracks k line (lines_in text) (behind text) c.lemmas words (lemmas_again k 5 c.lemmas some fits.lemmas)))
+    ∙ (rw (fed_first line text lack, fed_behind line text lack) (count_step c.gaps c.tracks k line (lines_in text) (behind text) words ∙ cycles_again c.gaps c.tracks k 5 c.cycles c.lemmas some fits.cycles fits.lemmas))
 
-bounded_again : (k : Kinds) (c : TrackCertificate) → AreSomeKinds k → CertificateFits k c → gaps_at k (lines_in (gaps_line c.gaps ++ (tracks_line c.tracks ++ (flat_map lemma_line c.lemmas ++ codes "end\n")))) (behind (gaps_line c.gaps ++ (tracks_line c.tracks ++ (flat_map lemma_line c.lemmas ++ codes "end\n")))) ≡ Ok c
+bounded_again : (k : Kinds) (c : TrackCertificate) → AreSomeKinds k → CertificateFits k c → gaps_at k (lines_in (gaps_line c.gaps ++ (tracks_line c.tracks ++ (flat_map cycle_line c.cycles ++ (flat_map lemma_line c.lemmas ++ codes "end\n"))))) (behind (gaps_line c.gaps ++ (tracks_line c.tracks ++ (flat_map cycle_line c.cycles ++ (flat_map lemma_line c.lemmas ++ codes "end\n"))))) ≡ Ok c
 bounded_again k c some fits =
     let line = join_with_byte 32 (codes "gaps" ∷ decimal c.gaps ∷ []) in
-    let text = tracks_line c.tracks ++ (flat_map lemma_line c.lemmas ++ codes "end\n") in
+    let text = tracks_line c.tracks ++ (flat_map cycle_line c.cycles ++ (flat_map lemma_line c.lemmas ++ codes "end\n")) in
     let above : All (IsAbove 32) (codes "gaps" ∷ decimal c.gaps ∷ []) = gaps_above c.gaps in
     let lack : Lacks 10 line = words_lack (codes "gaps" ∷ decimal c.gaps ∷ []) above in
     let words : gaps_in (words_in line) ≡ Some c.gaps = ap gaps_in (words_again (codes "gaps") (decimal c.gaps ∷ []) above) ∙ gaps_again c.gaps fits.gaps in
@@ -95,18 +148,18 @@ bounded_again k c some fits =
     ∙ (rw (fed_first line text lack, fed_behind line text lack) (gaps_step c.gaps k line (lines_in text) (behind text) words ∙ counted_again k c some fits))
 
 -- the lines of a certificate, one after the other
-pub text_apart : (name : List ℕ) (c : TrackCertificate) → certificate_text name c ≡ fed version_line ++ (fed (codes "cell " ++ name) ++ (gaps_line c.gaps ++ (tracks_line c.tracks ++ (flat_map lemma_line c.lemmas ++ codes "end\n"))))
-text_apart name c = apart name (gaps_line c.gaps) (tracks_line c.tracks) (flat_map lemma_line c.lemmas)
+pub text_apart : (name : List ℕ) (c : TrackCertificate) → certificate_text name c ≡ fed version_line ++ (fed (codes "cell " ++ name) ++ (gaps_line c.gaps ++ (tracks_line c.tracks ++ (flat_map cycle_line c.cycles ++ (flat_map lemma_line c.lemmas ++ codes "end\n")))))
+text_apart name c = apart name (gaps_line c.gaps) (tracks_line c.tracks) (flat_map cycle_line c.cycles) (flat_map lemma_line c.lemmas)
   where
-    apart : (cell gaps tracks ls : List ℕ) → (codes "cellgen-tracks 1\ncell " ++ cell ++ codes "\n") ++ gaps ++ tracks ++ ls ++ codes "end\n" ≡ fed version_line ++ (fed (codes "cell " ++ cell) ++ (gaps ++ (tracks ++ (ls ++ codes "end\n"))))
-    apart cell gaps tracks ls = simp append_assoc
+    apart : (cell gaps tracks cs ls : List ℕ) → (codes "cellgen-tracks 1\ncell " ++ cell ++ codes "\n") ++ gaps ++ tracks ++ cs ++ ls ++ codes "end\n" ≡ fed version_line ++ (fed (codes "cell " ++ cell) ++ (gaps ++ (tracks ++ (cs ++ (ls ++ codes "end\n")))))
+    apart cell gaps tracks cs ls = simp append_assoc
 
 -- what fits is read again
 pub read_again : (name : List ℕ) (k : Kinds) (c : TrackCertificate) → IsLogName name → AreSomeKinds k → CertificateFits k c → certificate_of (certificate_text name c) name k ≡ Ok c
 unfolding certificate_of
 read_again name k c is_name some fits =
     let cell = codes "cell " ++ name in
-    let later = gaps_line c.gaps ++ (tracks_line c.tracks ++ (flat_map lemma_line c.lemmas ++ codes "end\n")) in
+    let later = gaps_line c.gaps ++ (tracks_line c.tracks ++ (flat_map cycle_line c.cycles ++ (flat_map lemma_line c.lemmas ++ codes "end\n"))) in
     let version : Lacks 10 version_line = above_lacks 31 10 version_line (omega arith) (by_test 31 version_line refl) in
     let front : Lacks 10 (codes "cell ") = above_lacks 31 10 (codes "cell ") (omega arith) (by_test 31 (codes "cell ") refl) in
     let named : Lacks 10 cell = All-append (λ b. (b == 10) ≡ false) (codes "cell ") name front (other_lack name is_name.line) in
@@ -119,19 +172,23 @@ pub refused : (bytes name : List ℕ) (k : Kinds) (f : LogFault) (c : TrackCerti
 refused bytes name k f c is_name some h fits same =
     err-ok f c (sym h ∙ (ap (λ (t : List ℕ). certificate_of t name k) (sym same) ∙ read_again name k c is_name some fits))
 
-some_line : (lemma : TrackLemma) → 0 < length (lemma_line lemma)
-some_line lemma = omega arith
+lines_most : {A : Type 0} (write : A → List ℕ) (items : List A) → ((item : A) → 0 < length (write item)) → length items ≤ length (flat_map write items)
+lines_most write [] some = omega arith
+lines_most write (item ∷ items) some = omega (arith, some item, lines_most write items some, length-append (write item) (flat_map write items))
 
-lines_most : (lemmas : List TrackLemma) → length lemmas ≤ length (flat_map lemma_line lemmas)
-lines_most [] = omega arith
-lines_most (lemma ∷ lemmas) = omega (arith, some_line lemma, lines_most lemmas, length-append (lemma_line lemma) (flat_map lemma_line lemmas))
+some_cycle : (lemma : CycleLemma) → 0 < length (cycle_line lemma)
+some_cycle lemma = omega arith
 
-lemmas_within : (name : List ℕ) (c : TrackCertificate) → length c.lemmas ≤ length (certificate_text name c)
+some_lemma : (lemma : TrackLemma) → 0 < length (lemma_line lemma)
+some_lemma lemma = omega arith
+
+lemmas_within : (name : List ℕ) (c : TrackCertificate) → length c.cycles + length c.lemmas ≤ length (certificate_text name c)
 lemmas_within name c =
     let front = head_lines name ++ gaps_line c.gaps ++ tracks_line c.tracks in
-    let lines = flat_map lemma_line c.lemmas in
-    omega (arith, lines_most c.lemmas, length-append (front ++ lines) (codes "end\n"), length-append front lines)
+    let cycles = flat_map cycle_line c.cycles in
+    let lemmas = flat_map lemma_line c.lemmas in
+    omega (arith, lines_most cycle_line c.cycles some_cycle, lines_most lemma_line c.lemmas some_lemma, length-append (front ++ cycles ++ lemmas) (codes "end\n"), length-append (front ++ cycles) lemmas, length-append front cycles)
 
 -- each lemma takes a byte at least
-pub few_lemmas : (bytes name : List ℕ) (c : TrackCertificate) → bytes ≡ certificate_text name c → length c.lemmas ≤ length bytes
+pub few_lemmas : (bytes name : List ℕ) (c : TrackCertificate) → bytes ≡ certificate_text name c → length c.cycles + length c.lemmas ≤ length bytes
 few_lemmas bytes name c is = rw is (lemmas_within name c)

@@ -3,6 +3,7 @@ use Rattle.std.specs.Prelude.{ℕ, ◌≤◌, ◌<◌, All, IsTrue}
 use Rattle.row_state.specs.declared.kind.Kinds.{Kinds}
 use Rattle.row_state.specs.Start.{IsState}
 use Rattle.trail_log.specs.Order.{increases}
+use Rattle.row_cycles.specs.Fits.{CycleFits}
 use Rattle.track_ways.specs.declared.track.NetTrack.{NetTrack}
 use Rattle.track_ways.specs.declared.lemma.TrackLemma.{TrackLemma}
 use Rattle.track_log.specs.declared.certificate.TrackCertificate.{TrackCertificate}
@@ -23,4 +24,5 @@ pub record CertificateFits (k : Kinds) (certificate : TrackCertificate) : Type 0
   pub gaps : certificate.gaps ≤ 63
   pub some : 1 ≤ certificate.tracks
   pub few : certificate.tracks ≤ 256
+  pub cycles : All (CycleFits k) certificate.cycles
   pub lemmas : All (LemmaFits k) certificate.lemmas

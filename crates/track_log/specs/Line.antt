@@ -1,12 +1,14 @@
 -- What one line of a certificate holds, by its words.
-use Rattle.std.specs.Prelude.{ℕ, leb, List, [], ◌∷◌, Option, Some, None, codes, if◌then◌else◌}
+use Rattle.std.specs.Prelude.{ℕ, leb, List, [], ◌∷◌, Option, Some, None, codes, option_map, if◌then◌else◌}
 use Rattle.row_state.specs.declared.kind.Kinds.{Kinds}
 use Rattle.row_state.specs.declared.state.State.{State}
-use Rattle.row_state.specs.Tests.{state_test}
 use Rattle.log_lines.specs.Words.{is_word, number_below, parts_at}
-use Rattle.bound_log.specs.Line.{◌>>=◌, end_in, provided}
+use Rattle.bound_log.specs.Line.{◌>>=◌, provided, state_in}
 use Rattle.trail_log.specs.Listed.{list_in, net_in}
 use Rattle.trail_log.specs.Order.{increases}
+use Rattle.row_cycles.specs.declared.above.NetAbove.{NetAbove}
+use Rattle.row_cycles.specs.declared.lemma.CycleLemma.{CycleLemma}
+use Rattle.row_cycles.specs.Fits.{above_rank}
 use Rattle.track_ways.specs.declared.track.NetTrack.{NetTrack}
 use Rattle.track_ways.specs.declared.lemma.TrackLemma.{TrackLemma}
 
@@ -25,20 +27,6 @@ count_in words = do
   _ ← provided (leb 1 tracks)
   Some tracks
 
--- how many fingers are left, of each kind; no kind of a cell has more than 64
-abbrev pub left_in : List ℕ → Option (List ℕ)
-left_in word = list_in 44 (number_below 65) word
-
--- a valid state
-unfoldable pub state_in : Kinds → List ℕ → List ℕ → List ℕ → List ℕ → Option State
-state_in k p_word n_word p_end_word n_end_word = do
-  p_left ← left_in p_word
-  n_left ← left_in n_word
-  p_end ← end_in k.nets p_end_word
-  n_end ← end_in k.nets n_end_word
-  _ ← provided (state_test k (record { p_left = p_left; n_left = n_left; p_end = p_end; n_end = n_end }))
-  Some (record { p_left = p_left; n_left = n_left; p_end = p_end; n_end = n_end })
-
 abbrev pub track_of : ℕ → List (List ℕ) → Option NetTrack
 track_of nets (net_word ∷ track_word ∷ []) = do
   net ← net_in nets net_word
@@ -52,23 +40,50 @@ track_in nets word = track_of nets (parts_at 58 word)
 abbrev pub track_rank : NetTrack → ℕ
 track_rank t = t.net.0
 
--- each net before the next
-unfoldable pub tracks_in : ℕ → List ℕ → Option (List NetTrack)
-tracks_in nets word = do
-  tracks ← list_in 44 (track_in nets) word
-  _ ← provided (increases track_rank tracks)
-  Some tracks
+-- a net, and one below it
+abbrev pub above_of : ℕ → List (List ℕ) → Option NetAbove
+above_of nets (upper_word ∷ lower_word ∷ []) = do
+  upper ← net_in nets upper_word
+  lower ← net_in nets lower_word
+  Some (record { upper = upper; lower = lower })
+above_of nets _ = None
 
--- after the word `lemma`
-abbrev pub fields_in : Kinds → List (List ℕ) → Option TrackLemma
-fields_in k (gaps_word ∷ p_left ∷ n_left ∷ p_end ∷ n_end ∷ tracks_word ∷ []) = do
+abbrev pub above_in : ℕ → List ℕ → Option NetAbove
+above_in nets word = above_of nets (parts_at 62 word)
+
+-- a list with commas (byte 44) between, each item before the next
+unfoldable pub ordered_in : {A : Type 0} → (List ℕ → Option A) → (A → ℕ) → List ℕ → Option (List A)
+ordered_in read rank word = do
+  items ← list_in 44 read word
+  _ ← provided (increases rank items)
+  Some items
+
+-- after the first word of a lemma: further gaps, a valid state, and a list
+abbrev pub fields_in : {A : Type 0} → (ℕ → List ℕ → Option A) → (A → ℕ) → Kinds → List (List ℕ)
+    → Option (ℕ × State × List A)
+fields_in read rank k (gaps_word ∷ p_left ∷ n_left ∷ p_end ∷ n_end ∷ list ∷ []) = do
   gaps ← number_below 64 gaps_word
   state ← state_in k p_left n_left p_end n_end
-  tracks ← tracks_in k.nets tracks_word
-  Some (record { state = state; gaps = gaps; tracks = tracks })
-fields_in k _ = None
+  items ← ordered_in (read k.nets) rank list
+  Some (gaps, state, items)
+fields_in read rank k _ = None
 
--- a line of the lemmas
+-- the fields of a lemma whose first word is that one
+abbrev pub fields_after : {A : Type 0} → List ℕ → (ℕ → List ℕ → Option A) → (A → ℕ) → Kinds → List (List ℕ)
+    → Option (ℕ × State × List A)
+fields_after front read rank k [] = None
+fields_after front read rank k (word ∷ words) = if is_word word front then fields_in read rank k words else None
+
+abbrev pub cycle_with : ℕ × State × List NetAbove → CycleLemma
+cycle_with fields = record { state = fields.1; gaps = fields.0; above = fields.2 }
+
+abbrev pub lemma_with : ℕ × State × List NetTrack → TrackLemma
+lemma_with fields = record { state = fields.1; gaps = fields.0; tracks = fields.2 }
+
+-- a line of the lemmas on cycles
+abbrev pub cycle_in : Kinds → List (List ℕ) → Option CycleLemma
+cycle_in k words = option_map cycle_with (fields_after (codes "cycle") above_in above_rank k words)
+
+-- a line of the lemmas on tracks
 abbrev pub lemma_in : Kinds → List (List ℕ) → Option TrackLemma
-lemma_in k [] = None
-lemma_in k (word ∷ words) = if is_word word (codes "lemma") then fields_in k words else None
+lemma_in k words = option_map lemma_with (fields_after (codes "lemma") track_in track_rank k words)

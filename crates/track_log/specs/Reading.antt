@@ -1,5 +1,5 @@
 -- The certificate of which some bytes are the text, or the first place that is wrong.
-use Rattle.std.specs.Prelude.{ℕ, ◌+◌, List, [], ◌∷◌, ◌++◌, Result, Ok, Err, codes, if◌then◌else◌}
+use Rattle.std.specs.Prelude.{ℕ, ◌+◌, List, [], ◌∷◌, ◌++◌, Option, Some, None, Result, Ok, Err, codes, if◌then◌else◌}
 use Rattle.cell_num.specs.Steps.{◌>>=◌, require, or_fault}
 use Rattle.row_state.specs.declared.kind.Kinds.{Kinds}
 use Rattle.log_lines.specs.Words.{is_word, words_in}
@@ -7,14 +7,15 @@ use Rattle.log_lines.specs.Lines.{behind, lines_in}
 use Rattle.bound_log.specs.declared.fault.LogFault.{LogFault}
 use Rattle.bound_log.specs.declared.fault.LogFault.TheVariants as fault
 use Rattle.bound_log.specs.Reading.{end_at}
+use Rattle.row_cycles.specs.declared.lemma.CycleLemma.{CycleLemma}
 use Rattle.track_ways.specs.declared.lemma.TrackLemma.{TrackLemma}
 use Rattle.track_log.specs.declared.certificate.TrackCertificate.{TrackCertificate}
-use Rattle.track_log.specs.Line.{count_in, gaps_in, lemma_in}
+use Rattle.track_log.specs.Line.{count_in, cycle_in, gaps_in, lemma_in}
 use Rattle.track_log.specs.Text.{version_line}
 
 -- Below, line n is the first of the lines, and the rest are the bytes after the last one.
 
--- lemmas, until `end`
+-- lemmas on tracks, until `end`
 unfoldable pub lemmas_at : Kinds → ℕ → List (List ℕ) → List ℕ → Result (List TrackLemma) LogFault
 lemmas_at k n [] rest = Err fault.Cut
 lemmas_at k n (line ∷ lines) rest =
@@ -23,13 +24,31 @@ lemmas_at k n (line ∷ lines) rest =
       lemmas ← lemmas_at k (n + 1) lines rest
       Ok (lemma ∷ lemmas))
 
+-- a lemma on cycles before those of a certificate, or one without them
+abbrev pub begun_by : Option CycleLemma → Result TrackCertificate LogFault → Result TrackCertificate LogFault
+    → Result TrackCertificate LogFault
+begun_by None certificate without = without
+begun_by (Some cycle) certificate without = certificate >>= λ later. Ok (record {
+  gaps = later.gaps;
+  tracks = later.tracks;
+  cycles = cycle ∷ later.cycles;
+  lemmas = later.lemmas;
+})
+
+-- lemmas on cycles, and after them those on tracks
+unfoldable pub cycles_at : ℕ → ℕ → Kinds → ℕ → List (List ℕ) → List ℕ → Result TrackCertificate LogFault
+cycles_at gaps tracks k n [] rest = Err fault.Cut
+cycles_at gaps tracks k n (line ∷ lines) rest =
+    begun_by (cycle_in k (words_in line)) (cycles_at gaps tracks k (n + 1) lines rest) (do
+      lemmas ← lemmas_at k n (line ∷ lines) rest
+      Ok (record { gaps = gaps; tracks = tracks; cycles = []; lemmas = lemmas }))
+
 -- the line of the tracks, and the lemmas after it
 abbrev pub count_at : ℕ → Kinds → List (List ℕ) → List ℕ → Result TrackCertificate LogFault
 count_at gaps k [] rest = Err fault.Cut
 count_at gaps k (line ∷ lines) rest = do
   tracks ← or_fault (count_in (words_in line)) (fault.Line 4)
-  lemmas ← lemmas_at k 5 lines rest
-  Ok (record { gaps = gaps; tracks = tracks; lemmas = lemmas })
+  cycles_at gaps tracks k 5 lines rest
 
 -- the line of the gaps, and that of the tracks after it
 abbrev pub gaps_at : Kinds → List (List ℕ) → List ℕ → Result TrackCertificate LogFault

@@ -1,12 +1,12 @@
-// The text of certificates of tracks: lemmas that rows with few gaps need some number of tracks.
+// The text of certificates of tracks: lemmas that rows with few gaps need some number of tracks, or can't be wired.
 #![tactic(auto)]
 
+mod above;
 mod certificate;
 mod item;
 mod line;
 mod list;
 mod read;
-mod state;
 mod tracks;
 mod write;
 

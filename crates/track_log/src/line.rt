@@ -1,14 +1,16 @@
-ghost use Rattle.std.specs.Prelude.{◌≡◌, ◌≤◌, IfOk, codes, map};
+ghost use Rattle.std.specs.Prelude.{◌≡◌, ◌≤◌, IfOk, codes, map, option_map};
 ghost use Rattle.log_lines.specs.Words.{words_in};
-ghost use Rattle.track_log.specs.Line.{count_in, fields_in, gaps_in, lemma_in, number_after};
+ghost use Rattle.track_log.specs.Line.{count_in, cycle_in, fields_after, fields_in, gaps_in, lemma_in};
+ghost use Rattle.track_log.specs.Line.{number_after};
 
 use crate::MOST_TRACKS;
-use crate::state::read_state;
-use crate::tracks::read_net_tracks;
-use bound_log::MOST_GAPS;
-use cell_num::NoMemory;
+use crate::item::Item;
+use crate::list::read_ordered;
+use bound_log::{MOST_GAPS, state_of_words};
+use cell_num::{List, NoMemory};
 use log_lines::{few_parts, is_word, number_below};
-use row_state::Kinds;
+use row_cycles::CycleLemma;
+use row_state::{Kinds, State};
 use std::alloc::Global;
 use track_ways::TrackLemma;
 
@@ -51,49 +53,94 @@ pub(crate) fn read_count(line: &[u8]) -> Option<u32>
     if tracks < 1 { None } else { Some(tracks) }
 }
 
-// The fields of a lemma.
-fn fields(alloc: Global, kinds: &Kinds, words: &[&[u8]]) -> Result<Option<TrackLemma>, NoMemory>
-    ensures { IfOk result (λ lemma. lemma ≡ fields_in kinds.now (map (λ word. word.now) words.now)) }
+// What a lemma's line has after its first word: further gaps, a state, and a list.
+struct Fields<T> {
+    gaps: u32,
+    state: State,
+    items: List<T>,
+}
+
+fn fields_of_words<T: Item>(
+    alloc: Global,
+    kinds: &Kinds,
+    words: &[&[u8]],
+) -> Result<Option<Fields<T>>, NoMemory>
+    ensures { IfOk result (λ fields. option_map (λ f. (f.gaps, f.state, f.items)) fields
+        ≡ fields_in T.said T.place kinds.now (map (λ word. word.now) words.now)) }
 {
     kinds.show_limits();
-    let [gaps, p_left, n_left, p_end, n_end, tracks] = words else {
+    let [gaps, p_left, n_left, p_end, n_end, items] = words else {
         return Ok(None);
     };
     let Some(gaps) = number_below(gaps, MOST_GAPS as u32 + 1) else {
         return Ok(None);
     };
-    let Some(state) = read_state(alloc, kinds, p_left, n_left, p_end, n_end)? else {
+    let Some(state) = state_of_words(alloc, kinds, p_left, n_left, p_end, n_end)? else {
         return Ok(None);
     };
-    let Some(tracks) = read_net_tracks(alloc, kinds.nets, tracks)? else {
+    let Some(items) = read_ordered(alloc, kinds.nets, items)? else {
         return Ok(None);
     };
-    Ok(Some(TrackLemma {
-        state,
-        gaps,
-        tracks,
-    }))
+    Ok(Some(Fields { gaps, state, items }))
 }
 
-fn lemma_of_words(
+fn fields_after<T: Item>(
     alloc: Global,
+    front: &[u8],
     kinds: &Kinds,
     words: &[&[u8]],
-) -> Result<Option<TrackLemma>, NoMemory>
-    ensures { IfOk result (λ lemma. lemma ≡ lemma_in kinds.now (map (λ word. word.now) words.now)) }
+) -> Result<Option<Fields<T>>, NoMemory>
+    ensures { IfOk result (λ fields. option_map (λ f. (f.gaps, f.state, f.items)) fields
+        ≡ fields_after front.now T.said T.place kinds.now (map (λ word. word.now) words.now)) }
 {
     let [word, rest @ ..] = words else {
         return Ok(None);
     };
-    if is_word(word, b"lemma") {
-        let lemma = fields(alloc, kinds, rest)?;
-        return Ok(lemma);
+    if is_word(word, front) {
+        let fields = fields_of_words(alloc, kinds, rest)?;
+        return Ok(fields);
     }
     Ok(None)
 }
 
-/// The lemma of its line.
-#[tactic(auto, using(crate::proofs::Words::long_lemma))]
+#[tactic(auto, using(crate::proofs::Words::long_line))]
+fn read_fields<T: Item>(
+    alloc: Global,
+    front: &[u8],
+    kinds: &Kinds,
+    line: &[u8],
+) -> Result<Option<Fields<T>>, NoMemory>
+    ensures { IfOk result (λ fields. option_map (λ f. (f.gaps, f.state, f.items)) fields
+        ≡ fields_after front.now T.said T.place kinds.now (words_in line.now)) }
+{
+    let Some(words) = few_parts::<7>(line, b' ') else {
+        return Ok(None);
+    };
+    let fields = fields_after(alloc, front, kinds, words.as_slice())?;
+    Ok(fields)
+}
+
+/// The lemma on cycles of its line.
+#[tactic(auto, using(crate::proofs::Words::no_lemma, crate::proofs::Words::one_lemma))]
+pub(crate) fn read_cycle(
+    alloc: Global,
+    kinds: &Kinds,
+    line: &[u8],
+) -> Result<Option<CycleLemma>, NoMemory>
+    ensures { IfOk result (λ lemma. lemma ≡ cycle_in kinds.now (words_in line.now)) }
+{
+    let Some(Fields { gaps, state, items }) = read_fields(alloc, b"cycle", kinds, line)? else {
+        return Ok(None);
+    };
+    Ok(Some(CycleLemma {
+        state,
+        gaps,
+        above: items,
+    }))
+}
+
+/// The lemma on tracks of its line.
+#[tactic(auto, using(crate::proofs::Words::no_lemma, crate::proofs::Words::one_lemma))]
 pub(crate) fn read_lemma(
     alloc: Global,
     kinds: &Kinds,
@@ -101,9 +148,12 @@ pub(crate) fn read_lemma(
 ) -> Result<Option<TrackLemma>, NoMemory>
     ensures { IfOk result (λ lemma. lemma ≡ lemma_in kinds.now (words_in line.now)) }
 {
-    let Some(words) = few_parts::<7>(line, b' ') else {
+    let Some(Fields { gaps, state, items }) = read_fields(alloc, b"lemma", kinds, line)? else {
         return Ok(None);
     };
-    let lemma = lemma_of_words(alloc, kinds, words.as_slice())?;
-    Ok(lemma)
+    Ok(Some(TrackLemma {
+        state,
+        gaps,
+        tracks: items,
+    }))
 }

@@ -1,6 +1,8 @@
 ghost use Rattle.std.specs.Prelude.{◌≡◌, ◌≤◌, ◌++◌, ◌∷◌, IfOk, OnOk, flat_map, map};
 ghost use Rattle.trail_log.specs.Listed.{each_in, list_in};
+ghost use Rattle.trail_log.specs.Order.{increases};
 ghost use Rattle.trail_log.specs.Spelling.{list_text};
+ghost use Rattle.track_log.specs.Line.{ordered_in};
 
 use crate::item::Item;
 use cell_num::{Bytes, List, MOST_NETS, NoMemory};
@@ -23,12 +25,8 @@ fn each_of<T: Item>(alloc: Global, nets: u32, words: &[&[u8]]) -> Result<Option<
     Ok(Some(items))
 }
 
-/// The items with commas between them; `-` for none.
-pub(crate) fn read_list<T: Item>(
-    alloc: Global,
-    nets: u32,
-    text: &[u8],
-) -> Result<Option<List<T>>, NoMemory>
+// The items with commas between them; `-` for none.
+fn read_list<T: Item>(alloc: Global, nets: u32, text: &[u8]) -> Result<Option<List<T>>, NoMemory>
     requires { nets ≤ MOST_NETS }
     ensures { IfOk result (λ items. items ≡ list_in 44 (T.said nets) text.now) }
 {
@@ -38,6 +36,38 @@ pub(crate) fn read_list<T: Item>(
     let words = all_parts(alloc, text, b',')?;
     let items = each_of(alloc, nets, words.as_slice())?;
     Ok(items)
+}
+
+fn increase<T: Item>(items: &[T]) -> bool
+    ensures { result ≡ increases T.place items.now }
+{
+    let Some((_, rest)) = items.split_first() else {
+        return true;
+    };
+    items
+        .iter()
+        .zip(rest.iter())
+        .all(|pair| pair.0.rank() < pair.1.rank())
+}
+
+/// The items with commas between them, each before the next; `-` for none.
+#[tactic(auto, unfolding(crate::specs::Line::ordered_in))]
+pub(crate) fn read_ordered<T: Item>(
+    alloc: Global,
+    nets: u32,
+    text: &[u8],
+) -> Result<Option<List<T>>, NoMemory>
+    requires { nets ≤ MOST_NETS }
+    ensures { IfOk result (λ items. items ≡ ordered_in (T.said nets) T.place text.now) }
+{
+    let Some(items): Option<List<T>> = read_list(alloc, nets, text)? else {
+        return Ok(None);
+    };
+    if increase(items.as_slice()) {
+        Ok(Some(items))
+    } else {
+        Ok(None)
+    }
 }
 
 // Further items, each after its comma.

@@ -1,33 +1,40 @@
-ghost use Rattle.std.specs.Prelude.{◌≡◌, ◌≢◌, ◌≤◌, IfOk, IfErr, Ok, Err, length};
+ghost use Rattle.std.specs.Prelude.{◌≡◌, ◌≢◌, ◌≤◌, ◌+◌, IfOk, IfErr, Ok, Err, length};
 ghost use Rattle.log_lines.specs.Lines.{behind, lines_in};
 ghost use Rattle.bound_log.specs.declared.fault.LogFault.TheVariants as fault;
 ghost use Rattle.bound_log.specs.Fits.{IsLogName};
 ghost use Rattle.track_log.specs.declared.certificate.TrackCertificate.{TrackCertificate as CertificateOf};
 ghost use Rattle.track_log.specs.Fits.{CertificateFits};
-ghost use Rattle.track_log.specs.Reading.{certificate_of, count_at, gaps_at, lemmas_at, named_at};
+ghost use Rattle.track_log.specs.Reading.{certificate_of, count_at, cycles_at, gaps_at, lemmas_at};
+ghost use Rattle.track_log.specs.Reading.{named_at};
 ghost use Rattle.track_log.specs.Text.{certificate_text};
 
 use crate::TrackCertificate;
-use crate::line::{read_count, read_gaps, read_lemma};
+use crate::line::{read_count, read_cycle, read_gaps, read_lemma};
 use bound_log::{LogFault, read_end};
 use cell_num::{MOST_BYTES, Name};
 use log_lines::{first_line, is_named, is_word};
+use row_cycles::CycleLemmas;
 use row_state::Kinds;
 use std::alloc::Global;
 use track_ways::TrackLemmas;
 
-// The lemmas up to the line `end`, the last: else the first fault.
+// The lemmas on tracks up to the line `end`, the last, from the line of that number: else the first fault.
 #[tactic(auto, using(crate::proofs::Fronts::lemmas_cut, crate::proofs::Fronts::lemmas_done, crate::proofs::Fronts::lemmas_open, crate::proofs::Fronts::lemmas_wrong, crate::proofs::Fronts::lemmas_more))]
-fn read_lemmas(alloc: Global, kinds: &Kinds, bytes: &[u8]) -> Result<TrackLemmas, LogFault>
-    requires few { length bytes.now ≤ MOST_BYTES }
+fn read_lemmas(
+    alloc: Global,
+    kinds: &Kinds,
+    bytes: &[u8],
+    from: u32,
+) -> Result<TrackLemmas, LogFault>
+    requires few { length bytes.now + from ≤ MOST_BYTES + 5 }
     ensures lemmas { IfOk result (λ lemmas.
-        lemmas_at kinds.now 5 (lines_in bytes.now) (behind bytes.now) ≡ Ok lemmas) }
+        lemmas_at kinds.now from (lines_in bytes.now) (behind bytes.now) ≡ Ok lemmas) }
     ensures fault { IfErr result (λ f. f ≢ fault.NoMemory →
-        lemmas_at kinds.now 5 (lines_in bytes.now) (behind bytes.now) ≡ Err f) }
+        lemmas_at kinds.now from (lines_in bytes.now) (behind bytes.now) ≡ Err f) }
 {
     let mut lemmas = TrackLemmas::new(alloc);
     let mut rest = bytes;
-    let mut number = 5;
+    let mut number = from;
     'lemmas: loop {
         let Some(first) = first_line(rest) else {
             return Err(LogFault::Cut);
@@ -40,6 +47,43 @@ fn read_lemmas(alloc: Global, kinds: &Kinds, bytes: &[u8]) -> Result<TrackLemmas
             return Err(LogFault::Line { line: number });
         };
         lemmas.push(lemma)?;
+        rest = first.after;
+        number += 1;
+    }
+}
+
+// The lemmas on cycles, and after them those on tracks.
+#[tactic(auto, using(crate::proofs::Fronts::cycles_cut, crate::proofs::Fronts::cycles_done, crate::proofs::Fronts::cycles_wrong, crate::proofs::Fronts::cycles_more))]
+fn read_cycles(
+    alloc: Global,
+    gaps: u32,
+    tracks: u32,
+    kinds: &Kinds,
+    bytes: &[u8],
+) -> Result<TrackCertificate, LogFault>
+    requires few { length bytes.now ≤ MOST_BYTES }
+    ensures certificate { IfOk result (λ certificate.
+        cycles_at gaps tracks kinds.now 5 (lines_in bytes.now) (behind bytes.now) ≡ Ok certificate) }
+    ensures fault { IfErr result (λ f. f ≢ fault.NoMemory →
+        cycles_at gaps tracks kinds.now 5 (lines_in bytes.now) (behind bytes.now) ≡ Err f) }
+{
+    let mut cycles = CycleLemmas::new(alloc);
+    let mut rest = bytes;
+    let mut number = 5;
+    'cycles: loop {
+        let Some(first) = first_line(rest) else {
+            return Err(LogFault::Cut);
+        };
+        let Some(cycle) = read_cycle(alloc, kinds, first.line)? else {
+            let lemmas = read_lemmas(alloc, kinds, rest, number)?;
+            return Ok(TrackCertificate {
+                gaps,
+                tracks,
+                cycles,
+                lemmas,
+            });
+        };
+        cycles.push(cycle)?;
         rest = first.after;
         number += 1;
     }
@@ -64,12 +108,8 @@ fn read_counted(
     let Some(tracks) = read_count(first.line) else {
         return Err(LogFault::Line { line: 4 });
     };
-    let lemmas = read_lemmas(alloc, kinds, first.after)?;
-    Ok(TrackCertificate {
-        gaps,
-        tracks,
-        lemmas,
-    })
+    let certificate = read_cycles(alloc, gaps, tracks, kinds, first.after)?;
+    Ok(certificate)
 }
 
 // The line of the gaps, and that of the tracks after it.
@@ -155,7 +195,8 @@ pub fn read_tracks(
     ensures text { IfOk result (λ certificate. bytes.now ≡ certificate_text name.now certificate) }
     ensures one { IfOk result (λ certificate. (other : CertificateOf) → CertificateFits kinds.now other →
         certificate_text name.now other ≡ bytes.now → other ≡ certificate) }
-    ensures few { IfOk result (λ certificate. length certificate.lemmas ≤ length bytes.now) }
+    ensures few { IfOk result (λ certificate.
+        length certificate.cycles + length certificate.lemmas ≤ length bytes.now) }
     ensures none { IfErr result (λ f. f ≢ fault.NoMemory → (certificate : CertificateOf) →
         CertificateFits kinds.now certificate → certificate_text name.now certificate ≢ bytes.now) }
 {

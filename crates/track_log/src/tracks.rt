@@ -1,15 +1,11 @@
-ghost use Rattle.std.specs.Prelude.{◌≡◌, ◌≤◌, ◌++◌, IfOk, OnOk, map};
-ghost use Rattle.trail_log.specs.Order.{increases};
-ghost use Rattle.track_log.specs.Line.{track_in, track_of, track_rank, tracks_in};
-ghost use Rattle.track_log.specs.Text.{tracks_text};
+ghost use Rattle.std.specs.Prelude.{◌≡◌, ◌≤◌, map};
+ghost use Rattle.track_log.specs.Line.{track_in, track_of};
 
 use crate::MOST_TRACKS;
 use crate::item::Item;
-use crate::list::{put_list, read_list};
 use cell_num::{Bytes, MOST_NETS, NetNo, NoMemory, put_number};
 use log_lines::{few_parts, number_below};
-use std::alloc::Global;
-use track_ways::{NetTrack, NetTracks};
+use track_ways::NetTrack;
 
 fn track_of_words(nets: u32, words: &[&[u8]]) -> Option<NetTrack>
     requires { nets ≤ MOST_NETS }
@@ -36,12 +32,14 @@ fn read_track(nets: u32, word: &[u8]) -> Option<NetTrack>
 }
 
 impl Item for NetTrack {
-    ghost use Rattle.track_log.specs.Line.{track_in};
+    ghost use Rattle.track_log.specs.Line.{track_in, track_rank};
     ghost use Rattle.track_log.specs.Text.{track_text};
 
     ghost spelling = { track_text };
 
     ghost said = { track_in };
+
+    ghost place = { track_rank };
 
     fn read(nets: u32, word: &[u8]) -> Option<NetTrack> {
         read_track(nets, word)
@@ -52,42 +50,8 @@ impl Item for NetTrack {
         out.push(b':')?;
         put_number(out, u64::from(self.track))
     }
-}
 
-fn rise(tracks: &[NetTrack]) -> bool
-    ensures { result ≡ increases track_rank tracks.now }
-{
-    let Some((_, rest)) = tracks.split_first() else {
-        return true;
-    };
-    tracks
-        .iter()
-        .zip(rest.iter())
-        .all(|pair| pair.0.net.0 < pair.1.net.0)
-}
-
-/// Tracks of nets, each net before the next; `-` for none.
-#[tactic(auto, unfolding(crate::specs::Line::tracks_in))]
-pub(crate) fn read_net_tracks(
-    alloc: Global,
-    nets: u32,
-    word: &[u8],
-) -> Result<Option<NetTracks>, NoMemory>
-    requires { nets ≤ MOST_NETS }
-    ensures { IfOk result (λ tracks. tracks ≡ tracks_in nets word.now) }
-{
-    let Some(tracks): Option<NetTracks> = read_list(alloc, nets, word)? else {
-        return Ok(None);
-    };
-    if rise(tracks.as_slice()) {
-        Ok(Some(tracks))
-    } else {
-        Ok(None)
+    fn rank(&self) -> u64 {
+        u64::from(self.net.0)
     }
-}
-
-pub(crate) fn put_net_tracks(out: &mut Bytes, tracks: &NetTracks) -> Result<(), NoMemory>
-    ensures { OnOk result (out.new ≡ out.old ++ tracks_text tracks.now) }
-{
-    put_list(out, tracks.as_slice())
 }

@@ -1,4 +1,4 @@
-ghost use Rattle.std.specs.Prelude.{◌≡◌, ◌++◌, IfOk, Ok, OnOk};
+ghost use Rattle.std.specs.Prelude.{◌≡◌, ◌++◌, IfOk, Ok, OnOk, map};
 ghost use Rattle.std.specs.List.{flat_map};
 ghost use Rattle.row_state.specs.declared.kind.Kinds.{Kinds as KindsOf};
 ghost use Rattle.row_state.specs.Start.{AreSomeKinds};
@@ -6,12 +6,16 @@ ghost use Rattle.bound_log.specs.Fits.{IsLogName};
 ghost use Rattle.bound_log.specs.Text.{gaps_line};
 ghost use Rattle.track_log.specs.Fits.{CertificateFits};
 ghost use Rattle.track_log.specs.Reading.{certificate_of};
-ghost use Rattle.track_log.specs.Text.{certificate_text, head_lines, lemma_line, tracks_line};
+ghost use Rattle.trail_log.specs.Spelling.{list_text};
+ghost use Rattle.track_log.specs.Text.{certificate_text, cycle_line, fields_line, head_lines, lemma_line, tracks_line};
 
 use crate::TrackCertificate;
-use crate::state::put_state;
-use crate::tracks::put_net_tracks;
+use crate::item::Item;
+use crate::list::put_list;
+use bound_log::put_state;
 use cell_num::{Bytes, Name, NoMemory, put_number};
+use row_cycles::CycleLemma;
+use row_state::State;
 use std::alloc::Global;
 use track_ways::TrackLemma;
 
@@ -42,16 +46,58 @@ fn put_tracks(out: &mut Bytes, tracks: u32) -> Result<(), NoMemory>
     Ok(())
 }
 
+// The line of a lemma: its first word, further gaps, a state, and a list.
+fn put_fields<T: Item>(
+    out: &mut Bytes,
+    front: &[u8],
+    gaps: u32,
+    state: &State,
+    items: &[T],
+) -> Result<(), NoMemory>
+    ensures { OnOk result (out.new
+        ≡ out.old ++ fields_line front.now gaps state.now (list_text 44 (map T.spelling items.now))) }
+{
+    out.extend(front)?;
+    out.extend(b" ")?;
+    put_number(out, u64::from(gaps))?;
+    out.extend(b" ")?;
+    put_state(out, state)?;
+    out.extend(b" ")?;
+    put_list(out, items)?;
+    out.extend(b"\n")?;
+    Ok(())
+}
+
+fn put_cycle(out: &mut Bytes, lemma: &CycleLemma) -> Result<(), NoMemory>
+    ensures { OnOk result (out.new ≡ out.old ++ cycle_line lemma.now) }
+{
+    put_fields(
+        out,
+        b"cycle",
+        lemma.gaps,
+        &lemma.state,
+        lemma.above.as_slice(),
+    )
+}
+
 fn put_lemma(out: &mut Bytes, lemma: &TrackLemma) -> Result<(), NoMemory>
     ensures { OnOk result (out.new ≡ out.old ++ lemma_line lemma.now) }
 {
-    out.extend(b"lemma ")?;
-    put_number(out, u64::from(lemma.gaps))?;
-    out.extend(b" ")?;
-    put_state(out, &lemma.state)?;
-    out.extend(b" ")?;
-    put_net_tracks(out, &lemma.tracks)?;
-    out.extend(b"\n")?;
+    put_fields(
+        out,
+        b"lemma",
+        lemma.gaps,
+        &lemma.state,
+        lemma.tracks.as_slice(),
+    )
+}
+
+fn put_cycles(out: &mut Bytes, lemmas: &[CycleLemma]) -> Result<(), NoMemory>
+    ensures { OnOk result (out.new ≡ out.old ++ flat_map cycle_line lemmas.now) }
+{
+    for lemma in lemmas {
+        put_cycle(out, lemma)?;
+    }
     Ok(())
 }
 
@@ -71,6 +117,7 @@ fn text(alloc: Global, name: &Name, certificate: &TrackCertificate) -> Result<By
     put_head(&mut out, name)?;
     put_gaps(&mut out, certificate.gaps)?;
     put_tracks(&mut out, certificate.tracks)?;
+    put_cycles(&mut out, certificate.cycles.as_slice())?;
     put_lemmas(&mut out, certificate.lemmas.as_slice())?;
     out.extend(b"end\n")?;
     Ok(out)

@@ -10,6 +10,7 @@ use Rattle.bound_log.specs.declared.fault.LogFault.{LogFault}
 use Rattle.bound_log.specs.declared.fault.LogFault.TheVariants as fault
 use Rattle.bound_log.specs.declared.log.LogStep.{LogStep}
 use Rattle.bound_log.specs.Reading.{columns_at, end_at}
+use Rattle.bound_log.specs.declared.log.Ending.TheVariants as ending
 use Rattle.trail_log.specs.declared.trails.LemmaLine.{LemmaLine}
 use Rattle.trail_log.specs.declared.trails.TrailCertificate.{TrailCertificate}
 use Rattle.trail_log.specs.declared.trails.TrailEntry.TheVariants as entry
@@ -37,26 +38,26 @@ unfolding lemmas_at
 lemmas_more fill order k n lines rest front all line later after lemma h is same some =
     rw (sym same) (sym (one_lemma front lemma (lemmas_at fill order k (n + 1) later rest)) ∙ (sym (rw (sym some) refl) ∙ (ap (λ ls. with_lemmas front (lemmas_at fill order k n ls rest)) (sym is) ∙ h)))
 
-lemmas_row : (fill order : List NetNo) (k : Kinds) (n : ℕ) (lines : List (List ℕ)) (rest : List ℕ) (front : List LemmaLine) (all : Result TrailCertificate LogFault) (line : List ℕ) (later : List (List ℕ)) (gaps : ℕ) → with_lemmas front (lemmas_at fill order k n lines rest) ≡ all → lines ≡ line ∷ later → Some (entry.Gaps gaps) ≡ entry_in k.nets (words_in line) → with_lemmas front (columns_at k (n + 1) later rest >>= λ steps. Ok (record { fill = fill; order = order; lemmas = []; best = Some (record { gaps = gaps; steps = steps }) })) ≡ all
+lemmas_row : (fill order : List NetNo) (k : Kinds) (n : ℕ) (lines : List (List ℕ)) (rest : List ℕ) (front : List LemmaLine) (all : Result TrailCertificate LogFault) (line : List ℕ) (later : List (List ℕ)) (gaps : ℕ) → with_lemmas front (lemmas_at fill order k n lines rest) ≡ all → lines ≡ line ∷ later → Some (entry.Ending (ending.Gaps gaps)) ≡ entry_in k.nets (words_in line) → with_lemmas front (columns_at k (n + 1) later rest >>= λ steps. Ok (record { fill = fill; order = order; lemmas = []; best = Some (record { gaps = gaps; steps = steps }) })) ≡ all
 unfolding lemmas_at
 lemmas_row fill order k n lines rest front all line later gaps h is some = sym (rw (sym some) refl) ∙ (ap (λ ls. with_lemmas front (lemmas_at fill order k n ls rest)) (sym is) ∙ h)
 
-pub lemmas_listed : (fill order : List NetNo) (k : Kinds) (n : ℕ) (lines : List (List ℕ)) (rest : List ℕ) (front : List LemmaLine) (all : Result TrailCertificate LogFault) (line : List ℕ) (later : List (List ℕ)) (after : List ℕ) (gaps : ℕ) (steps : List LogStep) → with_lemmas front (lemmas_at fill order k n lines rest) ≡ all → lines ≡ line ∷ later → rest ≡ after → Some (entry.Gaps gaps) ≡ entry_in k.nets (words_in line) → columns_at k (n + 1) later after ≡ Ok steps → all ≡ Ok (record { fill = fill; order = order; lemmas = front; best = Some (record { gaps = gaps; steps = steps }) })
+pub lemmas_listed : (fill order : List NetNo) (k : Kinds) (n : ℕ) (lines : List (List ℕ)) (rest : List ℕ) (front : List LemmaLine) (all : Result TrailCertificate LogFault) (line : List ℕ) (later : List (List ℕ)) (after : List ℕ) (gaps : ℕ) (steps : List LogStep) → with_lemmas front (lemmas_at fill order k n lines rest) ≡ all → lines ≡ line ∷ later → rest ≡ after → Some (entry.Ending (ending.Gaps gaps)) ≡ entry_in k.nets (words_in line) → columns_at k (n + 1) later after ≡ Ok steps → all ≡ Ok (record { fill = fill; order = order; lemmas = front; best = Some (record { gaps = gaps; steps = steps }) })
 lemmas_listed fill order k n lines rest front all line later after gaps steps h is same some read =
     sym (lemmas_row fill order k n lines rest front all line later gaps h is some) ∙ rw (same, read) (ap (λ ls. Ok (record { fill = fill; order = order; lemmas = ls; best = Some (record { gaps = gaps; steps = steps }) })) (append-nil front))
 
-pub lemmas_unlisted : (fill order : List NetNo) (k : Kinds) (n : ℕ) (lines : List (List ℕ)) (rest : List ℕ) (front : List LemmaLine) (all : Result TrailCertificate LogFault) (line : List ℕ) (later : List (List ℕ)) (after : List ℕ) (gaps : ℕ) (f : LogFault) → with_lemmas front (lemmas_at fill order k n lines rest) ≡ all → lines ≡ line ∷ later → rest ≡ after → Some (entry.Gaps gaps) ≡ entry_in k.nets (words_in line) → columns_at k (n + 1) later after ≡ Err f → all ≡ Err f
+pub lemmas_unlisted : (fill order : List NetNo) (k : Kinds) (n : ℕ) (lines : List (List ℕ)) (rest : List ℕ) (front : List LemmaLine) (all : Result TrailCertificate LogFault) (line : List ℕ) (later : List (List ℕ)) (after : List ℕ) (gaps : ℕ) (f : LogFault) → with_lemmas front (lemmas_at fill order k n lines rest) ≡ all → lines ≡ line ∷ later → rest ≡ after → Some (entry.Ending (ending.Gaps gaps)) ≡ entry_in k.nets (words_in line) → columns_at k (n + 1) later after ≡ Err f → all ≡ Err f
 lemmas_unlisted fill order k n lines rest front all line later after gaps f h is same some read =
     sym (lemmas_row fill order k n lines rest front all line later gaps h is some) ∙ rw (same, read) refl
 
-lemmas_without : (fill order : List NetNo) (k : Kinds) (n : ℕ) (lines : List (List ℕ)) (rest : List ℕ) (front : List LemmaLine) (all : Result TrailCertificate LogFault) (line : List ℕ) (later : List (List ℕ)) → with_lemmas front (lemmas_at fill order k n lines rest) ≡ all → lines ≡ line ∷ later → Some entry.Open ≡ entry_in k.nets (words_in line) → with_lemmas front (end_at (n + 1) later rest >>= λ _. Ok (record { fill = fill; order = order; lemmas = []; best = None })) ≡ all
+lemmas_without : (fill order : List NetNo) (k : Kinds) (n : ℕ) (lines : List (List ℕ)) (rest : List ℕ) (front : List LemmaLine) (all : Result TrailCertificate LogFault) (line : List ℕ) (later : List (List ℕ)) → with_lemmas front (lemmas_at fill order k n lines rest) ≡ all → lines ≡ line ∷ later → Some (entry.Ending ending.Open) ≡ entry_in k.nets (words_in line) → with_lemmas front (end_at (n + 1) later rest >>= λ _. Ok (record { fill = fill; order = order; lemmas = []; best = None })) ≡ all
 unfolding lemmas_at
 lemmas_without fill order k n lines rest front all line later h is some = sym (rw (sym some) refl) ∙ (ap (λ ls. with_lemmas front (lemmas_at fill order k n ls rest)) (sym is) ∙ h)
 
-pub lemmas_ended : (fill order : List NetNo) (k : Kinds) (n : ℕ) (lines : List (List ℕ)) (rest : List ℕ) (front : List LemmaLine) (all : Result TrailCertificate LogFault) (line : List ℕ) (later : List (List ℕ)) (after : List ℕ) → with_lemmas front (lemmas_at fill order k n lines rest) ≡ all → lines ≡ line ∷ later → rest ≡ after → Some entry.Open ≡ entry_in k.nets (words_in line) → Ok tt ≡ end_at (n + 1) later after → all ≡ Ok (record { fill = fill; order = order; lemmas = front; best = None })
+pub lemmas_ended : (fill order : List NetNo) (k : Kinds) (n : ℕ) (lines : List (List ℕ)) (rest : List ℕ) (front : List LemmaLine) (all : Result TrailCertificate LogFault) (line : List ℕ) (later : List (List ℕ)) (after : List ℕ) → with_lemmas front (lemmas_at fill order k n lines rest) ≡ all → lines ≡ line ∷ later → rest ≡ after → Some (entry.Ending ending.Open) ≡ entry_in k.nets (words_in line) → Ok tt ≡ end_at (n + 1) later after → all ≡ Ok (record { fill = fill; order = order; lemmas = front; best = None })
 lemmas_ended fill order k n lines rest front all line later after h is same some read =
     sym (lemmas_without fill order k n lines rest front all line later h is some) ∙ rw (same, sym read) (ap (λ ls. Ok (record { fill = fill; order = order; lemmas = ls; best = None })) (append-nil front))
 
-pub lemmas_unended : (fill order : List NetNo) (k : Kinds) (n : ℕ) (lines : List (List ℕ)) (rest : List ℕ) (front : List LemmaLine) (all : Result TrailCertificate LogFault) (line : List ℕ) (later : List (List ℕ)) (after : List ℕ) (f : LogFault) → with_lemmas front (lemmas_at fill order k n lines rest) ≡ all → lines ≡ line ∷ later → rest ≡ after → Some entry.Open ≡ entry_in k.nets (words_in line) → Err f ≡ end_at (n + 1) later after → all ≡ Err f
+pub lemmas_unended : (fill order : List NetNo) (k : Kinds) (n : ℕ) (lines : List (List ℕ)) (rest : List ℕ) (front : List LemmaLine) (all : Result TrailCertificate LogFault) (line : List ℕ) (later : List (List ℕ)) (after : List ℕ) (f : LogFault) → with_lemmas front (lemmas_at fill order k n lines rest) ≡ all → lines ≡ line ∷ later → rest ≡ after → Some (entry.Ending ending.Open) ≡ entry_in k.nets (words_in line) → Err f ≡ end_at (n + 1) later after → all ≡ Err f
 lemmas_unended fill order k n lines rest front all line later after f h is same some read =
     sym (lemmas_without fill order k n lines rest front all line later h is some) ∙ rw (same, sym read) refl

@@ -21,6 +21,7 @@ use Rattle.bound_log.specs.Reading.{columns_at, end_at}
 use Rattle.bound_log.specs.Text.{best_text, column_line}
 use Rattle.bound_log.proofs.Only.{column_spelled, err-ok, line_of_words, same_Ok, text_cons}
 use Rattle.bound_log.proofs.Spelled.{column_joined, column_words}
+use Rattle.bound_log.specs.declared.log.Ending.TheVariants as ending
 use Rattle.trail_log.specs.Order.{increases, net_rank}
 use Rattle.trail_log.specs.Spelling.{nets_text}
 use Rattle.trail_log.specs.declared.trails.LemmaLine.{LemmaLine}
@@ -113,7 +114,7 @@ lemma_before fill order k line lines rest lemma trails one later =
       order_is = later.order_is;
     }
 
-gaps_before : (fill order : List NetNo) (k : Kinds) (line : List ℕ) (lines : List (List ℕ)) (rest : List ℕ) (gaps : ℕ) (steps : List LogStep) → EntrySpelled k.nets (words_in line) (entry.Gaps gaps) → (lines_text lines rest ≡ flat_map column_line steps ++ codes "end\n") × All (StepFits k) steps → RestSpelled fill order k (line ∷ lines) rest (record { fill = fill; order = order; lemmas = []; best = Some (record { gaps = gaps; steps = steps }) })
+gaps_before : (fill order : List NetNo) (k : Kinds) (line : List ℕ) (lines : List (List ℕ)) (rest : List ℕ) (gaps : ℕ) (steps : List LogStep) → EntrySpelled k.nets (words_in line) (entry.Ending (ending.Gaps gaps)) → (lines_text lines rest ≡ flat_map column_line steps ++ codes "end\n") × All (StepFits k) steps → RestSpelled fill order k (line ∷ lines) rest (record { fill = fill; order = order; lemmas = []; best = Some (record { gaps = gaps; steps = steps }) })
 gaps_before fill order k line lines rest gaps steps one later =
     let here : fed line ≡ codes "gaps " ++ (decimal gaps ++ codes "\n") = line_of_words line (codes "gaps" ∷ decimal gaps ∷ []) one.0 in
     record {
@@ -127,7 +128,7 @@ gaps_before fill order k line lines rest gaps steps one later =
     gaps_apart : (g cs : List ℕ) → (codes "gaps " ++ (g ++ codes "\n")) ++ (cs ++ codes "end\n") ≡ (codes "gaps " ++ g ++ codes "\n" ++ cs) ++ codes "end\n"
     gaps_apart g cs = simp append_assoc
 
-open_before : (fill order : List NetNo) (k : Kinds) (line : List ℕ) (lines : List (List ℕ)) (rest : List ℕ) → EntrySpelled k.nets (words_in line) entry.Open → lines_text lines rest ≡ codes "end\n" → RestSpelled fill order k (line ∷ lines) rest (record { fill = fill; order = order; lemmas = []; best = None })
+open_before : (fill order : List NetNo) (k : Kinds) (line : List ℕ) (lines : List (List ℕ)) (rest : List ℕ) → EntrySpelled k.nets (words_in line) (entry.Ending ending.Open) → lines_text lines rest ≡ codes "end\n" → RestSpelled fill order k (line ∷ lines) rest (record { fill = fill; order = order; lemmas = []; best = None })
 open_before fill order k line lines rest one later = record {
   text = before line lines rest (codes "open\n") (codes "end\n") (line_of_words line (codes "open" ∷ []) one) later;
   lemmas = All-nil (LemmaFits k.nets);
@@ -147,10 +148,10 @@ lemmas_only fill order k n (line ∷ lines) rest trails h =
     by_entry (entry.Lemma lemma) read spelled more =
         let later = bound_ok (lemmas_at fill order k (n + 1) lines rest) _ trails read in
         subst (RestSpelled fill order k (line ∷ lines) rest) (same_Ok _ trails later.2) (lemma_before fill order k line lines rest lemma later.0 spelled (more later.0 later.1))
-    by_entry (entry.Gaps gaps) read spelled more =
+    by_entry (entry.Ending (ending.Gaps gaps)) read spelled more =
         let steps = bound_ok (columns_at k (n + 1) lines rest) _ trails read in
         subst (RestSpelled fill order k (line ∷ lines) rest) (same_Ok _ trails steps.2) (gaps_before fill order k line lines rest gaps steps.0 spelled (columns_only k (n + 1) lines rest steps.0 steps.1))
-    by_entry entry.Open read spelled more =
+    by_entry (entry.Ending ending.Open) read spelled more =
         let end = bound_ok (end_at (n + 1) lines rest) _ trails read in
         subst (RestSpelled fill order k (line ∷ lines) rest) (same_Ok _ trails end.2) (open_before fill order k line lines rest spelled (end_only (n + 1) lines rest end.0 end.1))
 

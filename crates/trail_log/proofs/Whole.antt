@@ -23,6 +23,7 @@ use Rattle.bound_log.proofs.Again.{by_test, column_above, column_again, words_ag
 use Rattle.bound_log.proofs.Only.{err-ok}
 use Rattle.bound_log.proofs.Spelled.{column_words}
 use Rattle.bound_log.proofs.Whole.{columns_front, fed_first, gaps_above, gaps_front}
+use Rattle.bound_log.specs.declared.log.Ending.TheVariants as ending
 use Rattle.trail_log.specs.Spelling.{nets_text}
 use Rattle.trail_log.specs.declared.trails.LemmaLine.{LemmaLine}
 use Rattle.trail_log.specs.declared.trails.TrailEntry.{TrailEntry}
@@ -82,9 +83,9 @@ best_again fill order k n (Some best) some h =
     let above : All (IsAbove 32) (codes "gaps" ∷ decimal best.gaps ∷ []) = gaps_above best.gaps in
     let lack : Lacks 10 line = words_lack (codes "gaps" ∷ decimal best.gaps ∷ []) above in
     let whole : best_text (Some best) ++ codes "end\n" ≡ fed line ++ text = gaps_front best (codes "end\n") in
-    let words : entry_in k.nets (words_in line) ≡ Some (entry.Gaps best.gaps) = ap (entry_in k.nets) (words_again (codes "gaps") (decimal best.gaps ∷ []) above) ∙ gaps_again k.nets best.gaps h.few in
+    let words : entry_in k.nets (words_in line) ≡ Some (entry.Ending (ending.Gaps best.gaps)) = ap (entry_in k.nets) (words_again (codes "gaps") (decimal best.gaps ∷ []) above) ∙ gaps_again k.nets best.gaps h.few in
     ap (λ (t : List ℕ). lemmas_at fill order k n (lines_in t) (behind t)) whole
-    ∙ (rw (fed_first line text lack, fed_behind line text lack) (entry_step fill order k n line (lines_in text) (behind text) (entry.Gaps best.gaps) words ∙ rw (columns_again k (n + 1) best.steps some h.steps) refl))
+    ∙ (rw (fed_first line text lack, fed_behind line text lack) (entry_step fill order k n line (lines_in text) (behind text) (entry.Ending (ending.Gaps best.gaps)) words ∙ rw (columns_again k (n + 1) best.steps some h.steps) refl))
 
 pub lemmas_front : (lemma : LemmaLine) (lemmas : List LemmaLine) (rest : List ℕ) → flat_map lemma_line (lemma ∷ lemmas) ++ rest ≡ fed (join_with_byte 32 (codes "lemma" ∷ lemma_words lemma)) ++ (flat_map lemma_line lemmas ++ rest)
 lemmas_front lemma lemmas rest = append_assoc (lemma_line lemma) (flat_map lemma_line lemmas) rest ∙ ap (λ (bs : List ℕ). bs ++ (flat_map lemma_line lemmas ++ rest)) (sym (lemma_joined lemma))

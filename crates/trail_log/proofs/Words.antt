@@ -11,9 +11,11 @@ use Rattle.log_lines.specs.Words.{is_word, number_below}
 use Rattle.log_lines.proofs.Decimals.{above_decimal}
 use Rattle.log_lines.proofs.Numbers.{chosen, found_below, is_below, same_words}
 use Rattle.log_lines.proofs.Splits.{IsAbove, above_more, fed}
-use Rattle.bound_log.specs.Line.{gaps_in}
+use Rattle.bound_log.specs.Line.{ending_in}
 use Rattle.bound_log.proofs.Again.{by_test}
+use Rattle.bound_log.proofs.Only.{EndingSpelled, ending_spelled}
 use Rattle.bound_log.proofs.Spelled.{bound, cons_same, is_provided, mapped}
+use Rattle.bound_log.specs.declared.log.Ending.TheVariants as ending
 use Rattle.trail_log.specs.declared.class.Class.{Class}
 use Rattle.trail_log.specs.declared.class.NetPair.{NetPair}
 use Rattle.trail_log.specs.Listed.{class_in, classes_in, list_in, node_in, odd_in}
@@ -155,17 +157,7 @@ fill_again nets gates few h rising = rw (nets_again nets gates few h, rising) re
 
 abbrev pub EntrySpelled : ℕ → List (List ℕ) → TrailEntry → Type 0
 EntrySpelled nets words (entry.Lemma lemma) = (words ≡ codes "lemma" ∷ lemma_words lemma) × LemmaFits nets lemma
-EntrySpelled nets words (entry.Gaps gaps) = (words ≡ codes "gaps" ∷ decimal gaps ∷ []) × (gaps < 64)
-EntrySpelled nets words entry.Open = words ≡ codes "open" ∷ []
-
-no_more : {X : Type 0} (xs : List X) → (length xs == 0) ≡ true → xs ≡ []
-no_more [] h = refl
-no_more (x ∷ xs) h = absurd (omega (arith, eqb-true (length (x ∷ xs)) 0 h))
-
-gaps_only : (words : List (List ℕ)) (gaps : ℕ) → gaps_in words ≡ Some gaps → (words ≡ decimal gaps ∷ []) × (gaps < 64)
-gaps_only [] gaps h = absurd (none-some gaps h)
-gaps_only (a ∷ b ∷ bs) gaps h = absurd (none-some gaps h)
-gaps_only (a ∷ []) gaps h = let found : (a ≡ decimal gaps) × (gaps < 64) = found_below 64 a gaps h in (cons_same _ _ _ _ found.0 refl, found.1)
+EntrySpelled nets words (entry.Ending e) = EndingSpelled words e
 
 pub entry_only : (nets : ℕ) (words : List (List ℕ)) (e : TrailEntry) → entry_in nets words ≡ Some e → EntrySpelled nets words e
 entry_only nets [] e h = absurd (none-some e h)
@@ -175,21 +167,12 @@ entry_only nets (word ∷ words) e h =
           let l = mapped entry.Lemma (lemma_in nets words) e y.1 in
           let spelled = lemma_only nets words l.0 l.1 in
           subst (EntrySpelled nets (word ∷ words)) l.2 (cons_same _ _ _ _ (same_words word (codes "lemma") y.0) spelled.0, spelled.1)
-      | inr other ↦ elim (chosen (is_word word (codes "gaps")) _ _ _ other.1) [
-        | inl y ↦
-            let g = mapped entry.Gaps (gaps_in words) e y.1 in
-            let spelled = gaps_only words g.0 g.1 in
-            subst (EntrySpelled nets (word ∷ words)) g.2 (cons_same _ _ _ _ (same_words word (codes "gaps") y.0) spelled.0, spelled.1)
-        | inr last ↦ elim (chosen (is_word word (codes "open")) _ _ _ last.1) [
-          | inl y ↦
-              let alone = is_provided (length words == 0) (λ _. Some entry.Open) e y.1 in
-              subst (EntrySpelled nets (word ∷ words)) (same_Some entry.Open e alone.1) (cons_same _ _ _ _ (same_words word (codes "open") y.0) (no_more words alone.0))
-          | inr none ↦ absurd (none-some e none.1)
-        ]
-      ]
+      | inr other ↦
+          let ended = mapped entry.Ending (ending_in (word ∷ words)) e other.1 in
+          subst (EntrySpelled nets (word ∷ words)) ended.2 (ending_spelled (word ∷ words) ended.0 ended.1)
     ]
 
-pub gaps_again : (nets gaps : ℕ) → gaps ≤ 63 → entry_in nets (codes "gaps" ∷ decimal gaps ∷ []) ≡ Some (entry.Gaps gaps)
+pub gaps_again : (nets gaps : ℕ) → gaps ≤ 63 → entry_in nets (codes "gaps" ∷ decimal gaps ∷ []) ≡ Some (entry.Ending (ending.Gaps gaps))
 gaps_again nets gaps few = rw (is_below 64 (decimal gaps) gaps refl (omega (arith, few)) (omega arith)) refl
 
 -- ---- words joined

@@ -1,8 +1,8 @@
 -- What one line of a certificate holds, by its words.
-use Rattle.std.specs.Prelude.{ℕ, ◌==◌, leb, List, [], ◌∷◌, Option, Some, None, length, codes, option_map, if◌then◌else◌}
+use Rattle.std.specs.Prelude.{ℕ, leb, List, [], ◌∷◌, Option, Some, None, codes, option_map, if◌then◌else◌}
 use Rattle.cell_num.specs.declared.net.NetNo.{NetNo}
 use Rattle.log_lines.specs.Words.{is_word, number_below}
-use Rattle.bound_log.specs.Line.{◌>>=◌, gaps_in, provided}
+use Rattle.bound_log.specs.Line.{◌>>=◌, ending_in, provided}
 use Rattle.trail_log.specs.Listed.{classes_in, list_in, net_in, odd_in}
 use Rattle.trail_log.specs.Order.{increases, net_rank}
 use Rattle.trail_log.specs.declared.trails.LemmaLine.{LemmaLine}
@@ -21,14 +21,12 @@ lemma_in nets (bound ∷ done ∷ odd ∷ free ∷ classes ∷ []) = do
   Some (record { bound = ends; done = gates; odd = odd_nodes; classes = joined })
 lemma_in nets _ = None
 
--- a line of the lemmas, or the one that ends them
+-- a line of the lemmas, or the one after them
 abbrev pub entry_in : ℕ → List (List ℕ) → Option TrailEntry
 entry_in nets [] = None
 entry_in nets (word ∷ words) =
     if is_word word (codes "lemma") then option_map entry.Lemma (lemma_in nets words) else
-    if is_word word (codes "gaps") then option_map entry.Gaps (gaps_in words) else
-    if is_word word (codes "open") then (provided (length words == 0) >>= λ _. Some entry.Open) else
-    None
+    option_map entry.Ending (ending_in (word ∷ words))
 
 -- a word, and a list of nets
 abbrev pub nets_behind : List ℕ → ℕ → List (List ℕ) → Option (List NetNo)

@@ -9,6 +9,7 @@ use Rattle.bound_log.specs.declared.fault.LogFault.{LogFault}
 use Rattle.bound_log.specs.declared.fault.LogFault.TheVariants as fault
 use Rattle.bound_log.specs.declared.log.LogStep.{LogStep}
 use Rattle.bound_log.specs.Reading.{columns_at, end_at}
+use Rattle.bound_log.specs.declared.log.Ending.TheVariants as ending
 use Rattle.trail_log.specs.declared.trails.TrailCertificate.{TrailCertificate}
 use Rattle.trail_log.specs.declared.trails.TrailEntry.{TrailEntry}
 use Rattle.trail_log.specs.declared.trails.TrailEntry.TheVariants as entry
@@ -27,14 +28,14 @@ begun_by fill order (entry.Lemma lemma) trails columns end =
       lemmas = lemma ∷ later.lemmas;
       best = later.best;
     })
-begun_by fill order (entry.Gaps gaps) trails columns end =
+begun_by fill order (entry.Ending (ending.Gaps gaps)) trails columns end =
     columns >>= λ steps. Ok (record {
       fill = fill;
       order = order;
       lemmas = [];
       best = Some (record { gaps = gaps; steps = steps });
     })
-begun_by fill order entry.Open trails columns end =
+begun_by fill order (entry.Ending ending.Open) trails columns end =
     end >>= λ _. Ok (record { fill = fill; order = order; lemmas = []; best = None })
 
 -- lemmas, then either gaps and columns or `open`, then `end`

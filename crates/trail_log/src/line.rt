@@ -5,7 +5,7 @@ ghost use Rattle.trail_log.specs.Line.{entry_in, fill_in, lemma_in, nets_behind,
 use crate::listed::{increases, read_list};
 use crate::ordered::{read_classes, read_odd};
 use crate::{LemmaLine, MOST_ENDS, NetList, TrailEntry};
-use bound_log::gaps_of_words;
+use bound_log::ending_of_words;
 use cell_num::{MOST_COLUMNS, MOST_NETS, NoMemory};
 use log_lines::{all_parts, is_word, number_below};
 use std::alloc::Global;
@@ -53,13 +53,7 @@ fn entry_of_words(alloc: Global, nets: u32, words: &[&[u8]]) -> Result<Option<Tr
     if is_word(word, b"lemma") {
         return Ok(lemma(alloc, nets, rest)?.map(TrailEntry::Lemma));
     }
-    if is_word(word, b"gaps") {
-        return Ok(gaps_of_words(rest).map(TrailEntry::Gaps));
-    }
-    if is_word(word, b"open") && rest.is_empty() {
-        return Ok(Some(TrailEntry::Open));
-    }
-    Ok(None)
+    Ok(ending_of_words(words).map(TrailEntry::Ending))
 }
 
 /// What a line after the order says.

@@ -9,7 +9,7 @@ ghost use Rattle.trail_log.specs.Text.{trails_text};
 
 use crate::line::{read_entry, read_fill, read_order};
 use crate::{LemmaLines, NetList, TrailCertificate, TrailEntry};
-use bound_log::{Best, LogFault, read_columns, read_end};
+use bound_log::{Best, Ending, LogFault, read_columns, read_end};
 use cell_num::{MOST_BYTES, Name};
 use log_lines::{first_line, is_named, is_word};
 use row_state::Kinds;
@@ -40,7 +40,7 @@ fn read_lemmas(
         };
         match read_entry(alloc, kinds.nets, first.line)? {
             Some(TrailEntry::Lemma(lemma)) => lemmas.push(lemma)?,
-            Some(TrailEntry::Gaps(gaps)) => {
+            Some(TrailEntry::Ending(Ending::Gaps(gaps))) => {
                 let steps = read_columns(alloc, kinds, first.after, number + 1)?;
                 let best = Some(Best { gaps, steps });
                 return Ok(TrailCertificate {
@@ -50,7 +50,7 @@ fn read_lemmas(
                     best,
                 });
             }
-            Some(TrailEntry::Open) => {
+            Some(TrailEntry::Ending(Ending::Open)) => {
                 read_end(first.after, number + 1)?;
                 return Ok(TrailCertificate {
                     fill,

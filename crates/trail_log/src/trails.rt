@@ -1,5 +1,5 @@
 use crate::{ClassList, NetList, NetPairs};
-use bound_log::Best;
+use bound_log::{Best, Ending};
 use cell_num::List;
 
 /// The greatest bound that the text of a certificate can hold: two ends for each of 32 columns.
@@ -18,13 +18,11 @@ pub struct LemmaLine {
 /// The lemmas of a certificate.
 pub type LemmaLines = List<LemmaLine>;
 
-/// What a line after the order says: a lemma, or what follows the lemmas: the gaps of a row whose columns are
-/// listed, or that none is.
+/// What a line after the order says: a lemma, or what follows the lemmas.
 #[derive(Debug, Drop)]
 pub enum TrailEntry {
     Lemma(LemmaLine),
-    Gaps(u32),
-    Open,
+    Ending(Ending),
 }
 
 /// A certificate: the gates whose half columns are filled, all gates in the order in which they are chosen, lemmas,

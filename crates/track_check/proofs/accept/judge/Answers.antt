@@ -1,4 +1,4 @@
-use Rattle.std.proofs.Common.{arith, subst, sym}
+use Rattle.std.proofs.Common.{subst, sym}
 use Rattle.track_check.specs.Accepted.{Rejects}
 use Rattle.track_check.proofs.accept.judge.Goals as goal
 
@@ -6,7 +6,3 @@ pub returns-in-Err-clause-rejected : goal.returns-in-Err-clause-rejected
 returns-in-Err-clause-rejected g c = λ other.
     let is = c.because_of.ensures other in
     subst (Rejects (g.B.RowBound.value c.args.bound.now) c.args.pins.now c.args.kinds.now c.args.name.now c.args.bytes.now) (sym is.0) (c.in-Err.ensures.fault is.1)
-
-pub returns-in-Ok-check_tracks-clause-more : goal.returns-in-Ok-check_tracks-clause-more
-returns-in-Ok-check_tracks-clause-more g c = λ f row r kinds is few legal.
-    omega (arith, c.in-Ok.ensures.fits.some, c.in-Ok-check_tracks.ensures.more f row r kinds is few legal)

@@ -2,12 +2,12 @@ use Rattle.std.proofs.Common.{◌∙◌, Any, subst, sym}
 use Rattle.row_state.specs.Start.{start_of}
 use Rattle.track_ways.specs.Certificate.{AreJustified, CoversAll}
 use Rattle.track_ways.proofs.Sound.{certified, lemmas_true}
-use Rattle.track_check.specs.Noted.{AreNoted}
+use Rattle.track_check.specs.Noted.{AreNoted, state_of}
 use Rattle.track_check.specs.Refusal.{IsFirstUnjustified}
 use Rattle.track_check.specs.Touches.{AreTouches}
 use Rattle.track_check.proofs.Failing.{bare_is_all}
-use Rattle.track_check.proofs.Loops.{not_both}
-use Rattle.track_check.proofs.Noted.{noted_here}
+use Rattle.row_cycles.proofs.Loops.{not_both}
+use Rattle.row_cycles.proofs.Noted.{noted_here}
 use Rattle.track_check.proofs.check.check_tracks.Goals as goal
 
 pub first_unjustified-requires : goal.first_unjustified-requires
@@ -16,7 +16,7 @@ first_unjustified-requires g c = record { candidates = c.in_ok-candidates.ensure
 pub covers-requires : goal.covers-requires
 covers-requires g c =
     let noted : AreNoted c.args.kinds.now c.as_slice-lemmas.result.now c.first_unjustified.new.places = rw c.in_default.is at c.in_ok-unjustified.ensures.noted in
-    noted_here c.args.kinds.now c.as_slice-lemmas.result.now c.first_unjustified.new.places c.new-from.result c.new-from.ensures.numbered.code noted
+    noted_here state_of c.args.kinds.now c.as_slice-lemmas.result.now c.first_unjustified.new.places c.new-from.result c.new-from.ensures.numbered.code noted
 
 pub returns-in-Some-clause-refused : goal.returns-in-Some-clause-refused
 returns-in-Some-clause-refused g c = λ other.

@@ -1,15 +1,15 @@
 use Rattle.std.proofs.Common.{All, arith, refl, subst, take, take_all}
 use Rattle.track_ways.specs.Certificate.{IsValid}
-use Rattle.track_check.specs.Noted.{AreNoted}
+use Rattle.track_check.specs.Noted.{AreNoted, state_of}
 use Rattle.track_check.proofs.Certified.{below_more, none_below, valid_below}
-use Rattle.track_check.proofs.Loops.{not_both}
-use Rattle.track_check.proofs.Noted.{none_noted}
+use Rattle.row_cycles.proofs.Loops.{not_both}
+use Rattle.row_cycles.proofs.Noted.{none_noted}
 use Rattle.track_check.proofs.check.first_unjustified.Goals as goal
 
 pub loop-at-init : goal.loop-at-init
 loop-at-init g c = (
   none_below (g.B.RowBound.value c.args.grounds.now.bound.now) c.args.grounds.now.pins.now c.args.grounds.now.limit c.args.grounds.now.kinds.now c.args.lemmas.now,
-  none_noted c.args.grounds.now.kinds.now (take 0 c.args.lemmas.now) c.args.places.now refl,
+  none_noted state_of c.args.grounds.now.kinds.now (take 0 c.args.lemmas.now) c.args.places.now refl,
 )
 
 pub returns-then-not-branch-clause-first : goal.returns-then-not-branch-clause-first

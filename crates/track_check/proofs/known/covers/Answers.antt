@@ -1,5 +1,5 @@
 use Rattle.std.proofs.Common.{All, Contains, arith, subst, sym}
-use Rattle.track_check.proofs.Loops.{no_from, not_both}
+use Rattle.row_cycles.proofs.Loops.{no_from, not_both}
 use Rattle.track_check.proofs.known.covers.Goals as goal
 
 pub returns-then-not-is_same : goal.returns-then-not-is_same

@@ -1,6 +1,6 @@
 use Rattle.std.proofs.Common.{subst, sym, ◌∙◌}
 use Rattle.row_state.specs.Start.{IsState}
-use Rattle.track_check.proofs.Loops.{no_from, not_both}
+use Rattle.row_cycles.proofs.Loops.{no_from, not_both}
 use Rattle.track_check.proofs.lemma.branches.Goals as goal
 
 pub returns-then-not-branch : goal.returns-then-not-branch

@@ -1,5 +1,5 @@
 use Rattle.std.proofs.Common.{sym, ◌∙◌}
-use Rattle.track_check.proofs.Loops.{not_both, yes_from}
+use Rattle.row_cycles.proofs.Loops.{not_both, yes_from}
 use Rattle.track_check.proofs.lemma.end_fails.Goals as goal
 
 pub returns-then-has_fingers : goal.returns-then-has_fingers

@@ -2,7 +2,7 @@ use Rattle.std.proofs.Common.{◌↔◌}
 use Rattle.track_ways.specs.Certificate.{IsJustified}
 use Rattle.track_ways.specs.Checked.{IsJustifiedListed}
 use Rattle.track_ways.proofs.Checked.{justified_decided}
-use Rattle.track_check.proofs.Loops.{no_from, not_both}
+use Rattle.row_cycles.proofs.Loops.{no_from, not_both}
 use Rattle.track_check.proofs.lemma.is_justified.Goals as goal
 
 pub returns-then-not-is_state-clause-listed : goal.returns-then-not-is_state-clause-listed

@@ -1,5 +1,5 @@
 use Rattle.std.proofs.Common.{inl, inr}
-use Rattle.track_check.proofs.Loops.{no_from, not_both, yes_from}
+use Rattle.row_cycles.proofs.Loops.{no_from, not_both, yes_from}
 use Rattle.track_check.proofs.lemma.is_justified_at.Goals as goal
 
 pub returns-then-not-is_valid : goal.returns-then-not-is_valid

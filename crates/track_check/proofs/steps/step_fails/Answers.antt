@@ -2,7 +2,7 @@ use Rattle.std.proofs.Common.{◌≡◌, ap, arith, subst, sym, ◌∙◌}
 use Rattle.row_state.specs.Completion.{cost_of}
 use Rattle.row_state.specs.Steps.{IsPossible, column_of}
 use Rattle.track_check.proofs.Failing.{dear_fails, step_decides}
-use Rattle.track_check.proofs.Loops.{not_both, yes_from}
+use Rattle.row_cycles.proofs.Loops.{not_both, yes_from}
 use Rattle.track_check.proofs.steps.step_fails.Goals as goal
 
 pub returns-then-not-allows : goal.returns-then-not-allows

@@ -4,7 +4,7 @@ use Rattle.row_state.specs.declared.candidate.Candidate.{Candidate}
 use Rattle.row_state.specs.Start.{IsState}
 use Rattle.track_check.specs.Steps.{StepFailsListed}
 use Rattle.track_check.proofs.Failing.{steps_all}
-use Rattle.track_check.proofs.Loops.{all_end, no_from, not_both, yes_from}
+use Rattle.row_cycles.proofs.Loops.{all_end, no_from, not_both, yes_from}
 use Rattle.track_check.proofs.steps.steps_fail.Goals as goal
 
 pub returns-then-not-branch : goal.returns-then-not-branch

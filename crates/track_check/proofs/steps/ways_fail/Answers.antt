@@ -4,8 +4,9 @@ use Rattle.row_state.specs.Steps.{state_after}
 use Rattle.track_ways.specs.States.{is_still_ahead}
 use Rattle.track_ways.specs.Certificate.{NeedsMore}
 use Rattle.track_check.proofs.Failing.{bare_fail, crowded_fail, known_fail, more_fail}
-use Rattle.track_check.proofs.Loops.{not_both, yes_from}
-use Rattle.track_check.proofs.Noted.{noted_here}
+use Rattle.row_cycles.proofs.Loops.{not_both, yes_from}
+use Rattle.row_cycles.proofs.Noted.{noted_here}
+use Rattle.track_check.specs.Noted.{state_of}
 use Rattle.track_check.proofs.steps.ways_fail.Goals as goal
 
 pub returns-then-needs_more : goal.returns-then-needs_more
@@ -15,7 +16,7 @@ returns-then-needs_more g c =
     (subst (λ s. NeedsMore (g.B.RowBound.value c.args.grounds.now.bound.now) c.args.grounds.now.kinds.now s c.args.left) after (c.needs_more.ensures.0 c.if-needs_more.true)))
 
 pub covers-requires : goal.covers-requires
-covers-requires g c = noted_here c.args.grounds.now.kinds.now c.args.earlier.now.lemmas.now c.args.earlier.now.places.now c.in_ok-after.after c.in_ok-after.ensures.numbered.code c.requires.noted
+covers-requires g c = noted_here state_of c.args.grounds.now.kinds.now c.args.earlier.now.lemmas.now c.args.earlier.now.places.now c.in_ok-after.after c.in_ok-after.ensures.numbered.code c.requires.noted
 
 pub returns-then-covers : goal.returns-then-covers
 returns-then-covers g c =
@@ -44,7 +45,7 @@ step_ways-requires g c =
     }
 
 pub cover_all-requires : goal.cover_all-requires
-cover_all-requires g c = noted_here c.args.grounds.now.kinds.now c.args.earlier.now.lemmas.now c.args.earlier.now.places.now c.in_ok-after.after c.in_ok-after.ensures.numbered.code c.requires.noted
+cover_all-requires g c = noted_here state_of c.args.grounds.now.kinds.now c.args.earlier.now.lemmas.now c.args.earlier.now.places.now c.in_ok-after.after c.in_ok-after.ensures.numbered.code c.requires.noted
 
 pub returns : goal.returns
 returns g c =

@@ -2,7 +2,7 @@ use Rattle.std.proofs.Common.{◌≡◌, true, sym, ◌∙◌}
 use Rattle.std.proofs.lemmas.List.Elements.{All-get_or, All-more}
 use Rattle.track_ways.specs.States.{is_open_at}
 use Rattle.track_ways.specs.declared.track.NetTrack.{NetTrack}
-use Rattle.track_check.proofs.Loops.{all_end, no_from, not_both, yes_from}
+use Rattle.row_cycles.proofs.Loops.{all_end, no_from, not_both, yes_from}
 use Rattle.track_check.proofs.valid.are_open.Goals as goal
 
 pub returns-then-not-is_open : goal.returns-then-not-is_open

@@ -2,7 +2,7 @@ use Rattle.std.proofs.Common.{◌≡◌, true, All, subst, sym}
 use Rattle.track_ways.specs.States.{is_open_at}
 use Rattle.track_ways.specs.declared.track.NetTrack.{NetTrack}
 use Rattle.track_ways.specs.Tracks.{IsSingle}
-use Rattle.track_check.proofs.Loops.{no_from, not_both}
+use Rattle.row_cycles.proofs.Loops.{no_from, not_both}
 use Rattle.track_check.proofs.valid.is_valid.Goals as goal
 
 pub returns-then-not-ends_fit : goal.returns-then-not-ends_fit

@@ -8,7 +8,7 @@ use Rattle.track_log.proofs.read.read_lemmas.Given as goal
 abbrev pub invariant-lemmas : goal.invariant-lemmas
 invariant-lemmas l =
     (length l.rest + l.number ≤ MOST_BYTES + 5)
-    × (with_lemmas l.lemmas (lemmas_at l.kinds l.number (lines_in l.rest) (behind l.rest)) ≡ lemmas_at l.kinds 5 (lines_in l.bytes) (behind l.bytes))
+    × (with_lemmas l.lemmas (lemmas_at l.kinds l.number (lines_in l.rest) (behind l.rest)) ≡ lemmas_at l.kinds l.from (lines_in l.bytes) (behind l.bytes))
 
 abbrev pub decreases-lemmas : goal.decreases-lemmas
 decreases-lemmas l = length l.rest

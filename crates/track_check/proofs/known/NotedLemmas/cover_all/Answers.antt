@@ -1,6 +1,6 @@
 use Rattle.std.proofs.Common.{Any, subst, sym}
 use Rattle.track_ways.specs.Checked.{CoversListed}
-use Rattle.track_check.proofs.Loops.{all_end, all_here, no_from, not_both, one_more, yes_from}
+use Rattle.row_cycles.proofs.Loops.{all_end, all_here, no_from, not_both, one_more, yes_from}
 use Rattle.track_check.proofs.known.NotedLemmas.cover_all.Goals as goal
 
 pub returns-then-not-covers : goal.returns-then-not-covers

@@ -2,7 +2,7 @@ use Rattle.std.proofs.Common.{rules, ◌≡◌, Some, sym, subst}
 use Rattle.bound_log.specs.Line.{FewOfEach, counts_in, end_in}
 use Rattle.bound_log.proofs.Counts.{few_of_each}
 use Rattle.bound_log.proofs.States.{counts_read, end_read}
-use Rattle.bound_log.proofs.line.state.Goals as goal
+use Rattle.bound_log.proofs.line.state_of_words.Goals as goal
 
 pub counts-requires : goal.counts-requires
 counts-requires c = subst FewOfEach (sym c.as_slice.ensures) (few_of_each _ c.kinds.invariant).0
