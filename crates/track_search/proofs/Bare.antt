@@ -1,19 +1,25 @@
--- The most gaps of the lemmas without tracks are found by the number of the state.
+-- What is known of states is found by their numbers.
 use Rattle.std.proofs.Common.{ℕ, ◌≡◌, ◌≢◌, ◌<◌, ◌≤◌, ◌⊎◌, ◌↔◌, ◌++◌, List, [], ◌∷◌, Option, None, Some, Bool, length, inl, inr, refl, sym, ap, subst, arith, Any, Contains, ◌∙◌}
-use Rattle.std.specs.Prelude.{IsTrue}
+use Rattle.std.specs.Prelude.{IsTrue, unwrap_or}
 use Rattle.std.proofs.lemmas.Bool.{cases_eq, cases_lt}
 use Rattle.std.proofs.lemmas.List.Elements.{Contains-append_cases, Contains-push}
 use Rattle.cell_num.proofs.Lists.{contains_none, contains_one}
 use Rattle.cell_num.proofs.Pairs.{Some', any_append_left, any_at, some_from_any}
+use Rattle.cell_num.specs.declared.finger.Row.{Row}
+use Rattle.cell_num.specs.declared.finger.Row.TheVariants.{P, N}
+use Rattle.cell_num.specs.declared.net.Pins.{Pins}
 use Rattle.row_state.specs.declared.kind.Kinds.{Kinds}
 use Rattle.row_state.specs.declared.state.State.{State}
 use Rattle.row_state.specs.Code.{state_code}
 use Rattle.row_state.specs.Start.{IsState}
 use Rattle.row_state.proofs.Codes.{state_same}
 use Rattle.track_ways.specs.declared.lemma.TrackLemma.{TrackLemma}
-use Rattle.track_ways.specs.Certificate.{CoversAll}
-use Rattle.track_search.specs.declared.by_state.GapsByState.{GapsByState}
-use Rattle.track_search.specs.Bare.{AreMost, IsBare, IsUpTo, gaps_at}
+use Rattle.track_ways.specs.Certificate.{CoversAll, NeedsMore}
+use Rattle.track_search.specs.declared.by_state.ByState.{ByState}
+use Rattle.track_search.specs.declared.known.Known.{Known}
+use Rattle.track_search.specs.Bare.{AreFree, AreMost, AreNeeded, AreNeeds, IsBare, IsBelow, IsFrom, IsShut, IsUpTo, known_at, nothing_known}
+use Rattle.track_search.specs.Uncrowded.{HasUncrowded}
+use Rattle.track_search.proofs.Uncrowded.{uncrowded_wider}
 
 -- ---- the greater of two numbers of gaps
 
@@ -76,41 +82,41 @@ bare_set x old new most n none is up = (
 
 -- ---- what is noted of all states
 
-any_push : {X : Type 0} (P : X → Type 0) (xs : List X) (x : X) → Any P xs ⊎ P x → Any P (xs ++ x ∷ [])
-any_push P xs x (inl any) = any_append_left P xs (x ∷ []) any
-any_push P xs x (inr here) = any_at P (xs ++ x ∷ []) x (Contains-push xs x) here
+any_push : {X : Type 0} (Q : X → Type 0) (xs : List X) (x : X) → Any Q xs ⊎ Q x → Any Q (xs ++ x ∷ [])
+any_push Q xs x (inl any) = any_append_left Q xs (x ∷ []) any
+any_push Q xs x (inr here) = any_at Q (xs ++ x ∷ []) x (Contains-push xs x) here
 
-any_pushed : {X : Type 0} (P : X → Type 0) (xs : List X) (x : X) → Any P (xs ++ x ∷ []) → Any P xs ⊎ P x
-any_pushed P xs x any =
-    let found : Some' P (xs ++ x ∷ []) = some_from_any P (xs ++ x ∷ []) any in
+any_pushed : {X : Type 0} (Q : X → Type 0) (xs : List X) (x : X) → Any Q (xs ++ x ∷ []) → Any Q xs ⊎ Q x
+any_pushed Q xs x any =
+    let found : Some' Q (xs ++ x ∷ []) = some_from_any Q (xs ++ x ∷ []) any in
     elim (Contains-append_cases xs (x ∷ []) found.it found.there) [
-      | inl before ↦ inl (any_at P xs found.it before found.holds)
-      | inr last ↦ inr (subst P (sym (contains_one x found.it last)) found.holds)
+      | inl before ↦ inl (any_at Q xs found.it before found.holds)
+      | inr last ↦ inr (subst Q (sym (contains_one x found.it last)) found.holds)
     ]
 
-pub bare_none : (k : Kinds) (lemmas : List TrackLemma) (noted : GapsByState) → lemmas ≡ [] → ((number : ℕ) → gaps_at noted number ≡ None) → AreMost k lemmas noted
+pub bare_none : (k : Kinds) (lemmas : List TrackLemma) (noted : ByState) → lemmas ≡ [] → ((number : ℕ) → known_at noted number ≡ nothing_known) → AreMost k lemmas noted
 bare_none k lemmas noted none nothing s gaps state = (
-  λ up. absurd (subst (λ (o : Option ℕ). IsUpTo o gaps) (nothing (state_code k s)) up),
+  λ up. absurd (subst (λ (x : Known). IsUpTo x.closed gaps) (nothing (state_code k s)) up),
   λ any.
       let found : Some' (CoversAll s gaps) lemmas = some_from_any (CoversAll s gaps) lemmas any in
       absurd (contains_none found.it (subst (λ ls. Contains ls found.it) none found.there)),
 )
 
-pub bare_more : (k : Kinds) (lemmas now : List TrackLemma) (old new : GapsByState) (x : TrackLemma) (number : ℕ) → IsState k x.state → number ≡ state_code k x.state → AreMost k lemmas old → now ≡ lemmas ++ x ∷ [] → ((n : ℕ) → IsUpTo (gaps_at new number) n ↔ (IsUpTo (gaps_at old number) n ⊎ IsBare x n)) → ((q : ℕ) → q ≢ number → gaps_at new q ≡ gaps_at old q) → AreMost k now new
-bare_more k lemmas now old new x number valid code all grown here others s g state = subst (λ ls. IsUpTo (gaps_at new (state_code k s)) g ↔ Any (CoversAll s g) ls) (sym grown) (elim (cases_eq (state_code k s) number) [
+pub bare_more : (k : Kinds) (lemmas now : List TrackLemma) (old new : ByState) (x : TrackLemma) (number : ℕ) → IsState k x.state → number ≡ state_code k x.state → AreMost k lemmas old → now ≡ lemmas ++ x ∷ [] → ((n : ℕ) → IsUpTo ((known_at new number).closed) n ↔ (IsUpTo ((known_at old number).closed) n ⊎ IsBare x n)) → ((q : ℕ) → q ≢ number → known_at new q ≡ known_at old q) → AreMost k now new
+bare_more k lemmas now old new x number valid code all grown here others s g state = subst (λ ls. IsUpTo ((known_at new (state_code k s)).closed) g ↔ Any (CoversAll s g) ls) (sym grown) (elim (cases_eq (state_code k s) number) [
   | inl e ↦
       let same : s ≡ x.state = state_same k s x.state state valid (e ∙ code) in (
-        λ up. any_push (CoversAll s g) lemmas x (elim ((here g).0 (subst (λ (q : ℕ). IsUpTo (gaps_at new q) g) e up)) [
-          | inl before ↦ inl ((all s g state).0 (subst (λ (q : ℕ). IsUpTo (gaps_at old q) g) (sym e) before))
+        λ up. any_push (CoversAll s g) lemmas x (elim ((here g).0 (subst (λ (q : ℕ). IsUpTo ((known_at new q).closed) g) e up)) [
+          | inl before ↦ inl ((all s g state).0 (subst (λ (q : ℕ). IsUpTo ((known_at old q).closed) g) (sym e) before))
           | inr bare ↦ inr (record { state = sym same; enough = bare.enough; any = bare.any })
         ]),
-        λ any. subst (λ (q : ℕ). IsUpTo (gaps_at new q) g) (sym e) ((here g).1 (elim (any_pushed (CoversAll s g) lemmas x any) [
-          | inl before ↦ inl (subst (λ (q : ℕ). IsUpTo (gaps_at old q) g) e ((all s g state).1 before))
+        λ any. subst (λ (q : ℕ). IsUpTo ((known_at new q).closed) g) (sym e) ((here g).1 (elim (any_pushed (CoversAll s g) lemmas x any) [
+          | inl before ↦ inl (subst (λ (q : ℕ). IsUpTo ((known_at old q).closed) g) e ((all s g state).1 before))
           | inr last ↦ inr (record { enough = last.enough; any = last.any })
         ])),
       )
   | inr ne ↦
-      let as_before : gaps_at new (state_code k s) ≡ gaps_at old (state_code k s) = others (state_code k s) ne in (
+      let as_before : (known_at new (state_code k s)).closed ≡ (known_at old (state_code k s)).closed = ap (λ (x : Known). x.closed) (others (state_code k s) ne) in (
         λ up. any_append_left (CoversAll s g) lemmas (x ∷ []) ((all s g state).0 (subst (λ (o : Option ℕ). IsUpTo o g) as_before up)),
         λ any. elim (any_pushed (CoversAll s g) lemmas x any) [
           | inl before ↦ subst (λ (o : Option ℕ). IsUpTo o g) (sym as_before) ((all s g state).1 before)
@@ -119,9 +125,111 @@ bare_more k lemmas now old new x number valid code all grown here others s g sta
       )
 ])
 
--- what is looked up by the number of a state
-pub closed_is : (k : Kinds) (lemmas : List TrackLemma) (noted : GapsByState) (s : State) (gaps number : ℕ) (found : Option ℕ) (r : Bool) → IsState k s → number ≡ state_code k s → AreMost k lemmas noted → found ≡ gaps_at noted number → IsTrue r ↔ IsUpTo found gaps → IsTrue r ↔ Any (CoversAll s gaps) lemmas
+-- ---- how many gaps a state needs by the bounds of its rows
+
+pub needed_n : (value : Row → State → Kinds → ℕ) (k : Kinds) (s : State) (p n : ℕ) → p ≡ value P s k → n ≡ value N s k → p < n → AreNeeded value k s n
+needed_n value k s p n e f less gaps = (
+  λ low. inr (omega (arith, low, f)),
+  λ more. elim more [
+    | inl of_p ↦ omega (arith, of_p, e, less)
+    | inr of_n ↦ omega (arith, of_n, f)
+  ],
+)
+
+pub needed_p : (value : Row → State → Kinds → ℕ) (k : Kinds) (s : State) (p n : ℕ) → p ≡ value P s k → n ≡ value N s k → (p < n → ⊥) → AreNeeded value k s p
+needed_p value k s p n e f not' gaps = (
+  λ low. inl (omega (arith, low, e)),
+  λ more. elim more [
+    | inl of_p ↦ omega (arith, of_p, e)
+    | inr of_n ↦ elim (cases_lt p n) [
+      | inl less ↦ absurd (not' less)
+      | inr past ↦ omega (arith, of_n, f, past)
+    ]
+  ],
+)
+
+-- ---- one state is noted
+
+-- a part of what is known that stays the same for that state stays the same for all
+pub part_same : (part : Known → Option ℕ) (old new : ByState) (number : ℕ) → part (known_at new number) ≡ part (known_at old number) → ((q : ℕ) → q ≢ number → known_at new q ≡ known_at old q) → (q : ℕ) → part (known_at new q) ≡ part (known_at old q)
+part_same part old new number here others q = elim (cases_eq q number) [
+  | inl e ↦ subst (λ (z : ℕ). part (known_at new z) ≡ part (known_at old z)) (sym e) here
+  | inr ne ↦ ap part (others q ne)
+]
+
+pub needs_same : (value : Row → State → Kinds → ℕ) (k : Kinds) (old new : ByState) → ((q : ℕ) → (known_at new q).needs ≡ (known_at old q).needs) → AreNeeds value k old → AreNeeds value k new
+needs_same value k old new same all s needs state is = all s needs state (sym (same (state_code k s)) ∙ is)
+
+pub most_same : (k : Kinds) (lemmas : List TrackLemma) (old new : ByState) → ((q : ℕ) → (known_at new q).closed ≡ (known_at old q).closed) → AreMost k lemmas old → AreMost k lemmas new
+most_same k lemmas old new same all s gaps state = subst (λ (o : Option ℕ). IsUpTo o gaps ↔ Any (CoversAll s gaps) lemmas) (sym (same (state_code k s))) (all s gaps state)
+
+pub free_same : (pins : Pins) (limit : ℕ) (k : Kinds) (old new : ByState) → ((q : ℕ) → (known_at new q).free ≡ (known_at old q).free) → AreFree pins limit k old → AreFree pins limit k new
+free_same pins limit k old new same all s gaps state from = all s gaps state (subst (λ (o : Option ℕ). IsFrom o gaps) (same (state_code k s)) from)
+
+some_same : (a b : ℕ) → Some a ≡ Some b → a ≡ b
+some_same a b e = ap (λ (o : Option ℕ). unwrap_or o 0) e
+
+pub needs_set : (value : Row → State → Kinds → ℕ) (k : Kinds) (old new : ByState) (s : State) (number count : ℕ) → IsState k s → number ≡ state_code k s → AreNeeded value k s count → (known_at new number).needs ≡ Some count → ((q : ℕ) → q ≢ number → known_at new q ≡ known_at old q) → AreNeeds value k old → AreNeeds value k new
+needs_set value k old new s number count valid code needed here others all t needs state is = elim (cases_eq (state_code k t) number) [
+  | inl e ↦
+      let same : t ≡ s = state_same k t s state valid (e ∙ code) in
+      let there : (known_at new (state_code k t)).needs ≡ Some count = subst (λ (q : ℕ). (known_at new q).needs ≡ Some count) (sym e) here in
+      let equal : count ≡ needs = some_same count needs (sym there ∙ is) in
+      subst (λ (z : State). AreNeeded value k z needs) (sym same) (subst (λ (n : ℕ). AreNeeded value k s n) equal needed)
+  | inr ne ↦ all t needs state (sym (ap (λ (x : Known). x.needs) (others (state_code k t) ne)) ∙ is)
+]
+
+pub free_set : (pins : Pins) (limit : ℕ) (k : Kinds) (old new : ByState) (s : State) (number gaps : ℕ) → IsState k s → number ≡ state_code k s → HasUncrowded pins limit k s gaps → (known_at new number).free ≡ Some gaps → ((q : ℕ) → q ≢ number → known_at new q ≡ known_at old q) → AreFree pins limit k old → AreFree pins limit k new
+free_set pins limit k old new s number gaps valid code has here others all t g state from = elim (cases_eq (state_code k t) number) [
+  | inl e ↦
+      let same : t ≡ s = state_same k t s state valid (e ∙ code) in
+      let there : (known_at new (state_code k t)).free ≡ Some gaps = subst (λ (q : ℕ). (known_at new q).free ≡ Some gaps) (sym e) here in
+      let le : gaps ≤ g = subst (λ (o : Option ℕ). IsFrom o g) there from in
+      subst (λ (z : State). HasUncrowded pins limit k z g) (sym same) (uncrowded_wider pins limit k s gaps g le has)
+  | inr ne ↦ all t g state (subst (λ (x : Known). IsFrom x.free g) (others (state_code k t) ne) from)
+]
+
+pub needs_none : (value : Row → State → Kinds → ℕ) (k : Kinds) (noted : ByState) → ((number : ℕ) → known_at noted number ≡ nothing_known) → AreNeeds value k noted
+needs_none value k noted nothing s needs state is = absurd (none_some needs (sym (ap (λ (x : Known). x.needs) (nothing (state_code k s))) ∙ is))
+  where
+    none_some : (n : ℕ) → ◌≡◌ {A = Option ℕ} None (Some n) → ⊥
+    none_some n e = absurd cc
+
+pub free_none : (pins : Pins) (limit : ℕ) (k : Kinds) (noted : ByState) → ((number : ℕ) → known_at noted number ≡ nothing_known) → AreFree pins limit k noted
+free_none pins limit k noted nothing s gaps state from = absurd (subst (λ (x : Known). IsFrom x.free gaps) (nothing (state_code k s)) from)
+
+-- ---- what is looked up by the number of a state
+
+-- whether a lemma without tracks is about it
+pub closed_is : (k : Kinds) (lemmas : List TrackLemma) (noted : ByState) (s : State) (gaps number : ℕ) (found : Known) (r : Bool) → IsState k s → number ≡ state_code k s → AreMost k lemmas noted → found ≡ known_at noted number → IsTrue r ↔ IsUpTo found.closed gaps → IsTrue r ↔ Any (CoversAll s gaps) lemmas
 closed_is k lemmas noted s gaps number found r state code all is given =
-    let here : IsUpTo (gaps_at noted number) gaps ↔ Any (CoversAll s gaps) lemmas = subst (λ (q : ℕ). IsUpTo (gaps_at noted q) gaps ↔ Any (CoversAll s gaps) lemmas) (sym code) (all s gaps state) in
-    let there : IsTrue r ↔ IsUpTo (gaps_at noted number) gaps = subst (λ (o : Option ℕ). IsTrue r ↔ IsUpTo o gaps) is given in
+    let here : IsUpTo ((known_at noted number).closed) gaps ↔ Any (CoversAll s gaps) lemmas = subst (λ (q : ℕ). IsUpTo ((known_at noted q).closed) gaps ↔ Any (CoversAll s gaps) lemmas) (sym code) (all s gaps state) in
+    let there : IsTrue r ↔ IsUpTo ((known_at noted number).closed) gaps = subst (λ (x : Known). IsTrue r ↔ IsUpTo x.closed gaps) is given in
     (λ yes. here.0 (there.0 yes), λ any. there.1 (here.1 any))
+
+pub shut_closed : (value : Row → State → Kinds → ℕ) (k : Kinds) (lemmas : List TrackLemma) (noted : ByState) (s : State) (gaps number : ℕ) (found : Known) → IsState k s → number ≡ state_code k s → AreMost k lemmas noted → found ≡ known_at noted number → IsUpTo found.closed gaps → IsShut value k lemmas s gaps
+shut_closed value k lemmas noted s gaps number found state code all is up =
+    inr ((all s gaps state).0 (subst (λ (q : ℕ). IsUpTo ((known_at noted q).closed) gaps) code (subst (λ (x : Known). IsUpTo x.closed gaps) is up)))
+
+-- it needs more gaps by what is noted
+pub needs_below : (value : Row → State → Kinds → ℕ) (k : Kinds) (noted : ByState) (s : State) (gaps : ℕ) (o : Option ℕ) → IsState k s → AreNeeds value k noted → (known_at noted (state_code k s)).needs ≡ o → IsBelow o gaps → NeedsMore value k s gaps
+needs_below value k noted s gaps None state all is below = absurd below
+needs_below value k noted s gaps (Some needs) state all is below = (all s needs state is gaps).0 below
+
+pub shut_needs : (value : Row → State → Kinds → ℕ) (k : Kinds) (lemmas : List TrackLemma) (noted : ByState) (s : State) (gaps number : ℕ) (found : Known) → IsState k s → number ≡ state_code k s → AreNeeds value k noted → found ≡ known_at noted number → IsBelow found.needs gaps → IsShut value k lemmas s gaps
+shut_needs value k lemmas noted s gaps number found state code all is below =
+    inl (needs_below value k noted s gaps found.needs state all (ap (λ (q : ℕ). (known_at noted q).needs) (sym code) ∙ sym (ap (λ (x : Known). x.needs) is)) below)
+
+pub not_shut : (k : Kinds) (lemmas : List TrackLemma) (noted : ByState) (s : State) (gaps number : ℕ) (found : Known) → IsState k s → number ≡ state_code k s → AreMost k lemmas noted → found ≡ known_at noted number → (IsUpTo found.closed gaps → ⊥) → Any (CoversAll s gaps) lemmas → ⊥
+not_shut k lemmas noted s gaps number found state code all is none any =
+    none (subst (λ (x : Known). IsUpTo x.closed gaps) (sym is) (subst (λ (q : ℕ). IsUpTo ((known_at noted q).closed) gaps) (sym code) ((all s gaps state).1 any)))
+
+-- how many gaps it needs, where that is noted
+pub needed_is : (value : Row → State → Kinds → ℕ) (k : Kinds) (noted : ByState) (s : State) (number needs : ℕ) (found : Known) → IsState k s → number ≡ state_code k s → AreNeeds value k noted → found ≡ known_at noted number → found.needs ≡ Some needs → AreNeeded value k s needs
+needed_is value k noted s number needs found state code all is here =
+    all s needs state (ap (λ (q : ℕ). (known_at noted q).needs) (sym code) ∙ sym (ap (λ (x : Known). x.needs) is) ∙ here)
+
+-- whether it is known to have a completion without a crowded line
+pub free_is : (pins : Pins) (limit : ℕ) (k : Kinds) (noted : ByState) (s : State) (gaps number : ℕ) (found : Known) → IsState k s → number ≡ state_code k s → AreFree pins limit k noted → found ≡ known_at noted number → IsFrom found.free gaps → HasUncrowded pins limit k s gaps
+free_is pins limit k noted s gaps number found state code all is from =
+    all s gaps state (subst (λ (q : ℕ). IsFrom ((known_at noted q).free) gaps) code (subst (λ (x : Known). IsFrom x.free gaps) is from))

@@ -1,30 +1,24 @@
 -- The first completion along which tracks go, from that of the state after its first column.
-use Rattle.std.proofs.Common.{ℕ, zero, suc, ◌≡◌, ◌+◌, ◌-◌, ◌<◌, ◌≤◌, ◌⊎◌, ◌++◌, true, false, List, [], ◌∷◌, length, get_or, take, map, reverse, inl, inr, refl, sym, ap, subst, arith, All, Contains, ◌∙◌, IsPermutation}
+use Rattle.std.proofs.Common.{ℕ, zero, suc, ◌≡◌, ◌+◌, ◌-◌, ◌<◌, ◌≤◌, ◌⊎◌, ◌++◌, true, false, List, [], ◌∷◌, length, get_or, take, map, reverse, inl, inr, refl, sym, ap, subst, arith, All, Contains, ◌∙◌}
 use Rattle.std.proofs.lemmas.Bool.{cases_order}
 use Rattle.std.proofs.lemmas.List.{get_or-map, get_or-take, get_or_default, length-map, length-take, reverse-append}
-use Rattle.std.proofs.lemmas.List.Elements.{All-contains, All-nil}
-use Rattle.std.proofs.lemmas.List.Sorted.{IsPermutation-refl}
-use Rattle.cell_num.specs.declared.finger.Finger.{Finger}
+use Rattle.std.proofs.lemmas.List.Elements.{All-contains}
 use Rattle.cell_num.specs.declared.finger.Row.{Row}
-use Rattle.cell_num.specs.declared.finger.Row.TheVariants.{P, N}
 use Rattle.cell_num.specs.declared.net.NetNo.{NetNo}
 use Rattle.cell_num.specs.declared.net.Pins.{Pins}
 use Rattle.cell_num.proofs.Lists.{all_imply, contains_here}
 use Rattle.cell_num.proofs.Pairs.{Some', some_from_any}
 use Rattle.row_model.specs.declared.column.Column.{Column}
-use Rattle.row_model.specs.Arrangement.{IsColumn}
 use Rattle.row_state.specs.declared.candidate.Candidate.{Candidate}
 use Rattle.row_state.specs.declared.kind.Kinds.{Kinds}
 use Rattle.row_state.specs.declared.state.State.{State}
 use Rattle.row_state.specs.declared.step.Step.{Step}
 use Rattle.row_state.specs.Candidates.{AreCandidates, candidate_steps}
-use Rattle.row_state.specs.Completion.{Completes, cost_of, fingers_left, further_gaps}
-use Rattle.row_state.specs.Gates.{most}
+use Rattle.row_state.specs.Completion.{Completes, cost_of, further_gaps}
 use Rattle.row_state.specs.Order.{ColumnBefore, RowBefore}
 use Rattle.row_state.specs.Start.{AreSomeKinds, IsState}
 use Rattle.row_state.specs.Steps.{IsPossible, column_of, state_after}
 use Rattle.row_state.proofs.Digits.{among_candidates}
-use Rattle.row_state.proofs.Fewest.{most_none, most_same}
 use Rattle.row_state.proofs.Unfold.{further_step}
 use Rattle.row_state.proofs.Valid.{gates_are_nets}
 use Rattle.row_state.proofs.Calls.{valid_after}
@@ -48,7 +42,9 @@ use Rattle.track_search.specs.declared.ahead.Ahead.{Ahead}
 use Rattle.track_search.specs.First.{IsFirstRouted, IsRouted, RunsOn}
 use Rattle.track_search.specs.Visit.{AreTaken, AreWaysAt, EndsFail, EndsGo, GoOn, HasPart, IsAhead, IsTaken, lemma_at}
 use Rattle.track_search.proofs.Grown.{WaysFail}
+use Rattle.track_search.proofs.Nothing.{nil_of}
 use Rattle.track_search.proofs.Refuted.{refuted_listed}
+use Rattle.track_search.proofs.Uncrowded.{complete_end}
 
 -- the tracks of a part
 part_tracks : (way other : List NetTrack) (track : NetNo → ℕ) → HasPart way other → AreTracksOf way track → AreTracksOf other track
@@ -178,7 +174,7 @@ first_with value pins limit k lemmas s ways onward gaps left items i d rest some
     (λ same. h.first zs (routed_after value pins limit k lemmas s ways onward gaps left (get_or items i d).step zs some law all state sum taken (subst (λ (y : Step). IsRouted pins limit k s ways gaps (y ∷ zs)) (sym same) routed)))
 
 -- the first completion after the first column that does not fail is the first of the state
-pub first_through : (value : Row → State → Kinds → ℕ) (pins : Pins) (limit : ℕ) (k : Kinds) (lemmas : List TrackLemma) (s : State) (ways onward : List (List NetTrack)) (gaps : ℕ) (ahead : Ahead) (items : List Candidate) (i : ℕ) (d : Candidate) (rest pushed : List Step) → AreSomeKinds k → Holds value k → AreJustified value pins limit k lemmas → IsState k s → AreCandidates k items → AreWaysAt pins k s ways → AreWaysAt pins k (state_after k s (get_or items i d).step) onward → i < length items → All (WaysFail value pins limit k lemmas s gaps ways) (take i items) → IsAhead k s gaps (get_or items i d).step ahead → All (AreTaken pins limit k lemmas s (get_or items i d).step ahead.state.state ahead.left onward) ways → All (GoOn pins limit k s (get_or items i d).step ways) onward → IsFirstRouted pins limit k ahead.state.state onward ahead.left (reverse rest) → pushed ≡ rest ++ (get_or items i d).step ∷ [] → IsFirstRouted pins limit k s ways gaps (reverse pushed)
+pub first_through : (value : Row → State → Kinds → ℕ) (pins : Pins) (limit : ℕ) (k : Kinds) (lemmas : List TrackLemma) (s : State) (ways onward : List (List NetTrack)) (gaps : ℕ) (ahead : Ahead) (items : List Candidate) (i : ℕ) (d : Candidate) (rest pushed : List Step) → AreSomeKinds k → Holds value k → AreJustified value pins limit k lemmas → IsState k s → AreCandidates k items → AreWaysAt pins k s ways → AreWaysAt pins k (state_after k s (get_or items i d).step) onward → i < length items → All (WaysFail value pins limit k lemmas s gaps ways) (take i items) → IsAhead pins limit k s gaps (get_or items i d).step ahead → All (AreTaken pins limit k lemmas s (get_or items i d).step ahead.state.state ahead.left onward) ways → All (GoOn pins limit k s (get_or items i d).step ways) onward → IsFirstRouted pins limit k ahead.state.state onward ahead.left (reverse rest) → pushed ≡ rest ++ (get_or items i d).step ∷ [] → IsFirstRouted pins limit k s ways gaps (reverse pushed)
 first_through value pins limit k lemmas s ways onward gaps ahead items i d rest pushed some law all state are keys after within fails a taken from h is =
     let step : Step = (get_or items i d).step in
     let taken' : All (AreTaken pins limit k lemmas s step (state_after k s step) ahead.left onward) ways = subst (λ z. All (AreTaken pins limit k lemmas s step z ahead.left onward) ways) a.state taken in
@@ -190,18 +186,6 @@ first_through value pins limit k lemmas s ways onward gaps ahead items i d rest 
       first = first_with value pins limit k lemmas s ways onward gaps ahead.left items i d (reverse rest) some law all state are within fails a.left taken' h' (completes k s (step ∷ reverse rest) (gates_are_nets k some) routed.leads);
     })
 
-nil_of : {X : Type 0} (xs : List X) → length xs ≡ 0 → xs ≡ []
-nil_of [] e = refl
-nil_of (x ∷ xs) e = absurd (omega (arith, e))
-
-nil_perm : (xs : List Finger) → length xs ≡ 0 → IsPermutation xs []
-nil_perm xs e = subst (λ ys. IsPermutation xs ys) (nil_of xs e) (IsPermutation-refl xs)
-
-none_of_both : (a b : ℕ) → (0 < a + b → ⊥) → (a ≡ 0) × (b ≡ 0)
-none_of_both zero zero none = (refl, refl)
-none_of_both (suc a) b none = absurd (none (omega arith))
-none_of_both zero (suc b) none = absurd (none (omega arith))
-
 -- a way from which tracks go through the last line
 end_runs : (pins : Pins) (limit : ℕ) (k : Kinds) (s : State) (way : List NetTrack) (found : List (List NetTrack)) → AreSomeKinds k → IsState k s → IsSingle way → ends_ways pins limit k s way ≡ found → (found ≡ [] → ⊥) → (track : NetNo → ℕ) × AreTracksOf way track × Ends pins limit k s track
 end_runs pins limit k s way [] some state one is go = absurd (go refl)
@@ -212,17 +196,16 @@ end_runs pins limit k s way (x ∷ xs) some state one is go =
 -- with no finger left the empty list is the first
 pub first_at_end : (pins : Pins) (limit : ℕ) (k : Kinds) (s : State) (ways : List (List NetTrack)) (gaps : ℕ) (steps : List Step) → AreSomeKinds k → IsState k s → AreWaysAt pins k s ways → EndsGo pins limit k s ways → steps ≡ [] → IsFirstRouted pins limit k s ways gaps (reverse steps)
 first_at_end pins limit k s ways gaps steps some state keys ends is =
-    let none : (length (fingers_left P k.p s.p_left) ≡ 0) × (length (fingers_left N k.n s.n_left) ≡ 0) = none_of_both (length (fingers_left P k.p s.p_left)) (length (fingers_left N k.n s.n_left)) ends.none in
-    let no_columns : most (fingers_left P k.p s.p_left) (fingers_left N k.n s.n_left) k.nets ≡ 0 = most_same _ _ _ _ k.nets (nil_perm (fingers_left P k.p s.p_left) none.0) (nil_perm (fingers_left N k.n s.n_left) none.1) ∙ most_none k.nets in
+    let whole : Completes k s [] = complete_end k s ends.none in
     let go : Some' (λ way. EndsFail pins limit k s way → ⊥) ways = some_from_any (λ way. EndsFail pins limit k s way → ⊥) ways ends.go in
     let own : AreKeys pins (is_behind k s) (is_still_ahead k s) go.it = All-contains (AreKeys pins (is_behind k s) (is_still_ahead k s)) ways go.it keys go.there in
     let last : (track : NetNo → ℕ) × AreTracksOf go.it track × Ends pins limit k s track = end_runs pins limit k s go.it (ends_ways pins limit k s go.it) some state own.one refl go.holds in
     subst (λ zs. IsFirstRouted pins limit k s ways gaps (reverse zs)) (sym is)
     (record {
       routed = record {
-        leads = record { columns = All-nil IsColumn; p = nil_perm (fingers_left P k.p s.p_left) none.0; n = nil_perm (fingers_left N k.n s.n_left) none.1; fewest = sym no_columns };
+        leads = whole;
         within = omega arith;
         on = record { way = go.it; there = go.there; track = last.0; lie = last.1; runs = last.2 };
       };
-      first = λ other routed. inl (sym (nil_of (map (column_of k) other) ((completes k s other (gates_are_nets k some) routed.leads).fewest ∙ no_columns)));
+      first = λ other routed. inl (sym (nil_of (map (column_of k) other) ((completes k s other (gates_are_nets k some) routed.leads).fewest ∙ sym whole.fewest)));
     })

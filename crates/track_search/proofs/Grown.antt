@@ -22,14 +22,13 @@ use Rattle.track_ways.specs.declared.lemma.TrackLemma.{TrackLemma}
 use Rattle.track_ways.specs.Certificate.{CoversAll}
 use Rattle.track_ways.specs.Checked.{CoversListed, IsJustifiedListed, IsRefutedListed}
 use Rattle.track_check.specs.Steps.{StepFailsListed}
-use Rattle.track_check.specs.Noted.{AreNoted}
 use Rattle.track_check.proofs.Failing.{steps_all}
 use Rattle.track_search.specs.declared.ahead.Ahead.{Ahead}
 use Rattle.track_search.specs.declared.progress.Progress.{Progress}
 use Rattle.track_search.specs.InOrder.{in_order}
-use Rattle.track_search.specs.Bare.{AreMost, IsNoted}
+use Rattle.track_search.specs.Bare.{IsNoted, IsShut}
 use Rattle.track_search.specs.Kept.{AreKept, IsSpentBelow, IsWithin}
-use Rattle.track_search.specs.Visit.{AlwaysFails, AreBelow, AreCovered, AreFresh, AreTaken, EndsFail, HasPart, IsAhead, IsCutOff, IsGrown, IsKept, IsOfOpen, IsTaken, kept_at, lemma_at}
+use Rattle.track_search.specs.Visit.{AreBelow, AreCovered, AreFresh, AreTaken, ColumnFails, EndsFail, HasPart, IsAhead, IsCutOff, IsGrown, IsKept, IsOfOpen, IsTaken, kept_at, lemma_at}
 use Rattle.track_search.proofs.Kept.{AreSame, fresh_grown, kept_front, kept_new, kept_within, part_of_part, ways_in_order}
 use Rattle.track_search.proofs.Refuted.{kept_all, step_fails_more}
 
@@ -42,10 +41,10 @@ ways_fail_more value pins limit k xs ys more s allowed ways items is all =
     All-weaker (WaysFail value pins limit k xs s allowed ways) (WaysFail value pins limit k ys s allowed ways) (λ c each.
     All-weaker (λ way. StepFailsListed value pins limit k xs (lemma_at s allowed way) c.step) (λ way. StepFailsListed value pins limit k ys (lemma_at s allowed way) c.step) (λ way h. step_fails_more value pins limit k xs ys more (lemma_at s allowed way) c.step is h) ways each) items all
 
--- one more column that always fails
-pub always_fails : (value : Row → State → Kinds → ℕ) (pins : Pins) (limit : ℕ) (k : Kinds) (lemmas : List TrackLemma) (s : State) (allowed : ℕ) (ways : List (List NetTrack)) (items : List Candidate) (i : ℕ) (d : Candidate) → i < length items → All (WaysFail value pins limit k lemmas s allowed ways) (take i items) → AlwaysFails value pins limit k s allowed (get_or items i d).step → All (WaysFail value pins limit k lemmas s allowed ways) (take (i + 1) items)
-always_fails value pins limit k lemmas s allowed ways items i d within all fails =
-    All-more (WaysFail value pins limit k lemmas s allowed ways) items i d within all (all_from_contains (λ way. StepFailsListed value pins limit k lemmas (lemma_at s allowed way) (get_or items i d).step) ways (λ way there. fails lemmas way))
+-- one more column that fails whatever the tracks are
+pub column_fails : (value : Row → State → Kinds → ℕ) (pins : Pins) (limit : ℕ) (k : Kinds) (lemmas : List TrackLemma) (s : State) (allowed : ℕ) (ways : List (List NetTrack)) (items : List Candidate) (i : ℕ) (d : Candidate) → i < length items → All (WaysFail value pins limit k lemmas s allowed ways) (take i items) → ColumnFails value pins limit k lemmas s allowed (get_or items i d).step → All (WaysFail value pins limit k lemmas s allowed ways) (take (i + 1) items)
+column_fails value pins limit k lemmas s allowed ways items i d within all fails =
+    All-more (WaysFail value pins limit k lemmas s allowed ways) items i d within all (all_from_contains (λ way. StepFailsListed value pins limit k lemmas (lemma_at s allowed way) (get_or items i d).step) ways (λ way there. fails way))
 
 same_left : (cost left other gaps : ℕ) → cost + left ≡ gaps → cost + other ≡ gaps → other ≡ left
 same_left cost left other gaps e f = omega (arith, e, f)
@@ -57,26 +56,36 @@ covers_whole lemmas s gaps way part has any =
     any_at (CoversListed s gaps way) lemmas found.it found.there (record { state = found.holds.state; enough = found.holds.enough; tracks = part_of_part way part found.it.tracks has found.holds.tracks })
 
 -- no tracks go through the lines to the column
-pub crowded_fails : (value : Row → State → Kinds → ℕ) (pins : Pins) (limit : ℕ) (k : Kinds) (s : State) (allowed : ℕ) (step : Step) → ((way : List NetTrack) → goes_ways pins limit k s way step ≡ []) → AlwaysFails value pins limit k s allowed step
-crowded_fails value pins limit k s allowed step none lemmas way left possible sum = subst (All (IsRefutedListed value k lemmas (state_after k s step) left)) (sym (none way)) (All-nil (IsRefutedListed value k lemmas (state_after k s step) left))
+pub crowded_fails : (value : Row → State → Kinds → ℕ) (pins : Pins) (limit : ℕ) (k : Kinds) (lemmas : List TrackLemma) (s : State) (allowed : ℕ) (step : Step) → ((way : List NetTrack) → goes_ways pins limit k s way step ≡ []) → ColumnFails value pins limit k lemmas s allowed step
+crowded_fails value pins limit k lemmas s allowed step none way left possible sum = subst (All (IsRefutedListed value k lemmas (state_after k s step) left)) (sym (none way)) (All-nil (IsRefutedListed value k lemmas (state_after k s step) left))
+
+-- a lemma that speaks of a state for all tracks
+covers_any : (lemmas : List TrackLemma) (s : State) (gaps : ℕ) (way : List NetTrack) → Any (CoversAll s gaps) lemmas → Any (CoversListed s gaps way) lemmas
+covers_any lemmas s gaps way any =
+    let found : Some' (CoversAll s gaps) lemmas = some_from_any (CoversAll s gaps) lemmas any in
+    any_at (CoversListed s gaps way) lemmas found.it found.there (record {
+      state = found.holds.state;
+      enough = found.holds.enough;
+      tracks = subst (All (Contains way)) (sym found.holds.any) (All-nil (Contains way));
+    })
+
+-- the state after the column needs more gaps, or a lemma speaks of it for all tracks
+pub shut_fails : (value : Row → State → Kinds → ℕ) (pins : Pins) (limit : ℕ) (k : Kinds) (lemmas : List TrackLemma) (s : State) (allowed left : ℕ) (step : Step) → cost_of s (column_of k step) + left ≡ allowed → IsShut value k lemmas (state_after k s step) left → ColumnFails value pins limit k lemmas s allowed step
+shut_fails value pins limit k lemmas s allowed left step sum shut way other possible also =
+    subst (λ n. All (IsRefutedListed value k lemmas (state_after k s step) n) (goes_ways pins limit k s way step)) (sym (same_left (cost_of s (column_of k step)) left other allowed sum also))
+    (all_from_contains (IsRefutedListed value k lemmas (state_after k s step) left) (goes_ways pins limit k s way step) (λ next at. elim shut [
+      | inl needs ↦ inl needs
+      | inr any ↦ inr (covers_any lemmas (state_after k s step) left next any)
+    ]))
 
 -- a lemma speaks of the state after the column for all tracks
-pub closed_fails : (value : Row → State → Kinds → ℕ) (pins : Pins) (limit : ℕ) (k : Kinds) (lemmas : List TrackLemma) (s : State) (allowed : ℕ) (ways : List (List NetTrack)) (step : Step) (ahead : Ahead) → IsAhead k s allowed step ahead → Any (CoversAll ahead.state.state ahead.left) lemmas → All (λ way. StepFailsListed value pins limit k lemmas (lemma_at s allowed way) step) ways
+pub closed_fails : (value : Row → State → Kinds → ℕ) (pins : Pins) (limit : ℕ) (k : Kinds) (lemmas : List TrackLemma) (s : State) (allowed : ℕ) (ways : List (List NetTrack)) (step : Step) (ahead : Ahead) → IsAhead pins limit k s allowed step ahead → Any (CoversAll ahead.state.state ahead.left) lemmas → All (λ way. StepFailsListed value pins limit k lemmas (lemma_at s allowed way) step) ways
 closed_fails value pins limit k lemmas s allowed ways step ahead a any =
-    all_from_contains (λ way. StepFailsListed value pins limit k lemmas (lemma_at s allowed way) step) ways (λ way there left possible sum.
-    all_from_contains (IsRefutedListed value k lemmas (state_after k s step) left) (goes_ways pins limit k s way step) (λ next at. inr (known next left sum)))
-  where
-    known : (next : List NetTrack) (left : ℕ) → cost_of s (column_of k step) + left ≡ allowed → Any (CoversListed (state_after k s step) left next) lemmas
-    known next left sum =
-        let found : Some' (CoversAll ahead.state.state ahead.left) lemmas = some_from_any (CoversAll ahead.state.state ahead.left) lemmas any in
-        any_at (CoversListed (state_after k s step) left next) lemmas found.it found.there (record {
-          state = found.holds.state ∙ a.state;
-          enough = omega (arith, found.holds.enough, a.left, sum);
-          tracks = subst (All (Contains next)) (sym found.holds.any) (All-nil (Contains next));
-        })
+    let fails : ColumnFails value pins limit k lemmas s allowed step = shut_fails value pins limit k lemmas s allowed ahead.left step a.left (inr (subst (λ (z : State). Any (CoversAll z ahead.left) lemmas) a.state any)) in
+    all_from_contains (λ way. StepFailsListed value pins limit k lemmas (lemma_at s allowed way) step) ways (λ way there. fails way)
 
 -- one more column whose ways all fail
-pub ahead_fails : (value : Row → State → Kinds → ℕ) (pins : Pins) (limit : ℕ) (k : Kinds) (xs ys more : List TrackLemma) (s : State) (allowed : ℕ) (ways onward : List (List NetTrack)) (step : Step) (ahead : Ahead) → ys ≡ xs ++ more → IsAhead k s allowed step ahead → All (AreTaken pins limit k xs s step ahead.state.state ahead.left onward) ways → AreCovered ys ahead.state.state ahead.left onward → All (λ way. StepFailsListed value pins limit k ys (lemma_at s allowed way) step) ways
+pub ahead_fails : (value : Row → State → Kinds → ℕ) (pins : Pins) (limit : ℕ) (k : Kinds) (xs ys more : List TrackLemma) (s : State) (allowed : ℕ) (ways onward : List (List NetTrack)) (step : Step) (ahead : Ahead) → ys ≡ xs ++ more → IsAhead pins limit k s allowed step ahead → All (AreTaken pins limit k xs s step ahead.state.state ahead.left onward) ways → AreCovered ys ahead.state.state ahead.left onward → All (λ way. StepFailsListed value pins limit k ys (lemma_at s allowed way) step) ways
 ahead_fails value pins limit k xs ys more s allowed ways onward step ahead is a taken covered =
     all_imply (AreTaken pins limit k xs s step ahead.state.state ahead.left onward) (λ way. StepFailsListed value pins limit k ys (lemma_at s allowed way) step) ways (λ way all left possible sum.
     subst (λ n. All (IsRefutedListed value k ys (state_after k s step) n) (goes_ways pins limit k s way step)) (sym (same_left (cost_of s (column_of k step)) ahead.left left allowed a.left sum))
@@ -89,16 +98,9 @@ ahead_fails value pins limit k xs ys more s allowed ways onward step ahead is a 
         let found : Some' (HasPart next) onward = some_from_any (HasPart next) onward part in
         covers_whole ys ahead.state.state ahead.left next found.it found.holds (All-contains (λ way. Any (CoversListed ahead.state.state ahead.left way) ys) onward found.it covered found.there)
 
--- what is kept stays kept where only hints change
-pub kept_same : (value : Row → State → Kinds → ℕ) (pins : Pins) (limit : ℕ) (k : Kinds) (gaps budget : ℕ) (p q : Progress) → IsKept value pins limit k gaps budget p → q.lemmas ≡ p.lemmas → q.places ≡ p.places → q.bare ≡ p.bare → IsKept value pins limit k gaps budget q
-kept_same value pins limit k gaps budget p q h same places bare = record {
-  kept = subst (AreKept value pins limit k gaps) (sym same) h.kept;
-  few = omega (arith, h.few, ap length same);
-  noted = record {
-    places = subst (λ ls. AreNoted k ls q.places) (sym same) (subst (AreNoted k p.lemmas) (sym places) h.noted.places);
-    bare = subst (λ ls. AreMost k ls q.bare) (sym same) (subst (AreMost k p.lemmas) (sym bare) h.noted.bare);
-  };
-}
+-- what is kept stays kept where more is known of states
+pub kept_same : (value : Row → State → Kinds → ℕ) (pins : Pins) (limit : ℕ) (k : Kinds) (gaps budget : ℕ) (p q : Progress) → IsKept value pins limit k gaps budget p → q.lemmas ≡ p.lemmas → IsNoted value pins limit k q → IsKept value pins limit k gaps budget q
+kept_same value pins limit k gaps budget p q h same noted = record { kept = subst (AreKept value pins limit k gaps) (sym same) h.kept; few = omega (arith, h.few, ap length same); noted = noted }
 
 -- no lemma more
 pub grown_same : (value : Row → State → Kinds → ℕ) (pins : Pins) (limit : ℕ) (k : Kinds) (gaps budget columns : ℕ) (p q : Progress) → IsKept value pins limit k gaps budget q → q.lemmas ≡ p.lemmas → IsGrown value pins limit k gaps budget columns p q
@@ -136,10 +138,14 @@ pub grown_above : (value : Row → State → Kinds → ℕ) (pins : Pins) (limit
 grown_above value pins limit k gaps budget columns left p q r fewer g h =
     grown_wider value pins limit k gaps budget columns (columns + 1) p r (omega arith) (grown_through value pins limit k gaps budget columns left p q r fewer g h)
 
--- and where only hints change after it
-pub grown_hint : (value : Row → State → Kinds → ℕ) (pins : Pins) (limit : ℕ) (k : Kinds) (gaps budget columns : ℕ) (p q r : Progress) → IsGrown value pins limit k gaps budget columns p q → r.lemmas ≡ q.lemmas → r.places ≡ q.places → r.bare ≡ q.bare → IsGrown value pins limit k gaps budget columns p r
-grown_hint value pins limit k gaps budget columns p q r g same places bare =
-    grown_on value pins limit k gaps budget columns p q r g (grown_same value pins limit k gaps budget columns q r (kept_same value pins limit k gaps budget q r g.kept same places bare) same)
+-- and where more is known of states after it
+pub grown_known : (value : Row → State → Kinds → ℕ) (pins : Pins) (limit : ℕ) (k : Kinds) (gaps budget columns : ℕ) (p q r : Progress) → IsGrown value pins limit k gaps budget columns p q → r.lemmas ≡ q.lemmas → IsNoted value pins limit k r → IsGrown value pins limit k gaps budget columns p r
+grown_known value pins limit k gaps budget columns p q r g same noted =
+    grown_on value pins limit k gaps budget columns p q r g (grown_same value pins limit k gaps budget columns q r (kept_same value pins limit k gaps budget q r g.kept same noted) same)
+
+-- the columns that failed still do
+pub still_fail : (value : Row → State → Kinds → ℕ) (pins : Pins) (limit : ℕ) (k : Kinds) (xs ys : List TrackLemma) (s : State) (allowed : ℕ) (ways : List (List NetTrack)) (items : List Candidate) → ys ≡ xs → All (WaysFail value pins limit k xs s allowed ways) items → All (WaysFail value pins limit k ys s allowed ways) items
+still_fail value pins limit k xs ys s allowed ways items same all = subst (λ ls. All (WaysFail value pins limit k ls s allowed ways) items) (sym same) all
 
 -- where each next column fails and the end does, lemmas on the ways are justified
 each_justified : (value : Row → State → Kinds → ℕ) (pins : Pins) (limit : ℕ) (k : Kinds) (lemmas : List TrackLemma) (s : State) (allowed : ℕ) (ways : List (List NetTrack)) (all : List Candidate) → AreCandidates k all → IsState k s → EndsFit k s → All (IsOfOpen pins k s) ways → All (WaysFail value pins limit k lemmas s allowed ways) all → ((HasFingers k s → ⊥) → All (EndsFail pins limit k s) ways) → All (λ way. IsJustifiedListed value pins limit k lemmas (lemma_at s allowed way)) ways
@@ -162,7 +168,7 @@ kept_sound value pins limit k gaps budget p q s allowed ways all i some are stat
     }
 
 -- what a visit that fails has kept
-pub kept_grown : (value : Row → State → Kinds → ℕ) (pins : Pins) (limit : ℕ) (k : Kinds) (gaps budget : ℕ) (p q r : Progress) (s : State) (allowed : ℕ) (ways : List (List NetTrack)) → IsGrown value pins limit k gaps budget (columns_left k s) p q → AreKept value pins limit k gaps (q.lemmas ++ map (kept_at k.nets s allowed) ways) → r.lemmas ≡ q.lemmas ++ map (kept_at k.nets s allowed) ways → IsNoted k r → length r.lemmas ≤ budget → IsGrown value pins limit k gaps budget (columns_left k s + 1) p r
+pub kept_grown : (value : Row → State → Kinds → ℕ) (pins : Pins) (limit : ℕ) (k : Kinds) (gaps budget : ℕ) (p q r : Progress) (s : State) (allowed : ℕ) (ways : List (List NetTrack)) → IsGrown value pins limit k gaps budget (columns_left k s) p q → AreKept value pins limit k gaps (q.lemmas ++ map (kept_at k.nets s allowed) ways) → r.lemmas ≡ q.lemmas ++ map (kept_at k.nets s allowed) ways → IsNoted value pins limit k r → length r.lemmas ≤ budget → IsGrown value pins limit k gaps budget (columns_left k s + 1) p r
 kept_grown value pins limit k gaps budget p q r s allowed ways g sound is noted few = record {
   kept = record { kept = subst (AreKept value pins limit k gaps) (sym is) sound; few = few; noted = noted };
   more = g.more ++ map (kept_at k.nets s allowed) ways;

@@ -17,7 +17,8 @@ use Rattle.row_state.specs.Start.{AreSomeKinds, IsState, columns_left}
 use Rattle.row_state.specs.Steps.{column_of, state_after}
 use Rattle.track_ways.specs.declared.line.Line.{Line}
 use Rattle.track_ways.specs.declared.track.NetTrack.{NetTrack}
-use Rattle.track_ways.specs.Lines.{is_ahead, is_open, is_rail, with_line}
+use Rattle.track_ways.specs.Lines.{is_ahead, is_open, with_line}
+use Rattle.cell_num.specs.Pins.{is_rail}
 use Rattle.track_ways.specs.Paths.{lines_to}
 use Rattle.track_ways.specs.States.{is_behind, is_open_at, is_still_ahead}
 use Rattle.track_ways.specs.Tracks.{AreKeys}

@@ -6,8 +6,10 @@ pub mod Kept
 pub mod Least
 pub mod Legal
 pub mod Lists
+pub mod LowestFound
+pub mod Nothing
 pub mod Refuted
 pub mod Spent
 pub mod Starts
+pub mod Uncrowded
 pub mod Ways
-pub mod LowestFound

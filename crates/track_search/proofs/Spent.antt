@@ -35,7 +35,7 @@ pub start_below : (limit : ℕ) (ways : List (List NetTrack)) → ways ≡ [] �
 start_below limit ways one = subst (All (AreBelow limit)) (sym one) (all_one (AreBelow limit) [] (All-nil (λ (t : NetTrack). t.track < limit)))
 
 -- nothing is kept there
-pub start_kept : (value : Row → State → Kinds → ℕ) (pins : Pins) (limit : ℕ) (k : Kinds) (gaps budget : ℕ) (p : Progress) → p.lemmas ≡ [] → IsNoted k p → IsKept value pins limit k gaps budget p
+pub start_kept : (value : Row → State → Kinds → ℕ) (pins : Pins) (limit : ℕ) (k : Kinds) (gaps budget : ℕ) (p : Progress) → p.lemmas ≡ [] → IsNoted value pins limit k p → IsKept value pins limit k gaps budget p
 start_kept value pins limit k gaps budget p none noted = record {
   kept = record {
     justified = none_justified value pins limit k p.lemmas none;

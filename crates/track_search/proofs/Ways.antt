@@ -16,7 +16,7 @@ use Rattle.row_state.specs.Steps.{IsPossible, state_after}
 use Rattle.row_state.proofs.Exists.{completion_exists}
 use Rattle.row_state.proofs.Unfold.{unfold_from}
 use Rattle.row_state.proofs.Valid.{gates_are_nets}
-use Rattle.track_ways.specs.Lines.{is_rail}
+use Rattle.cell_num.specs.Pins.{is_rail}
 use Rattle.track_ways.specs.Paths.{EndsFit}
 use Rattle.track_ways.specs.States.{is_behind, is_open_at, is_still_ahead}
 use Rattle.track_ways.specs.Tracks.{AreKeys}

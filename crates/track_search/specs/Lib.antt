@@ -7,4 +7,5 @@ pub mod Lowest
 pub mod Bare
 pub mod First
 pub mod InOrder
+pub mod Uncrowded
 pub mod Visit

@@ -10,6 +10,7 @@ use Rattle.row_state.specs.Candidates.{IsNumbered}
 use Rattle.row_state.specs.Completion.{cost_of}
 use Rattle.row_state.specs.Start.{HasFingers, columns_left}
 use Rattle.row_state.specs.Steps.{IsPossible, column_of, state_after}
+use Rattle.track_ways.specs.Crowds.{step_uncrowded}
 use Rattle.track_ways.specs.States.{is_behind, is_open_at, is_still_ahead}
 use Rattle.track_ways.specs.Tables.{marked}
 use Rattle.track_ways.specs.Tracks.{AreKeys, IsSingle}
@@ -57,19 +58,22 @@ pub record AreFresh (lemmas : List TrackLemma) (s : State) (gaps : ℕ) (ways : 
   pub open' : All (λ way. Any (CoversListed s gaps way) lemmas → ⊥) ways
   pub apart : AllPairs (λ a b. HasPart b a → ⊥) ways
 
--- whatever the lemmas and the tracks are, the column leaves a lemma on the state justified
-abbrev pub AlwaysFails : (Row → State → Kinds → ℕ) → Pins → ℕ → Kinds → State → ℕ → Step → Type 0
-AlwaysFails value pins limit k s allowed step =
-    (lemmas : List TrackLemma) (way : List NetTrack)
-    → StepFailsListed value pins limit k lemmas (lemma_at s allowed way) step
+-- whatever the tracks are, the column leaves a lemma on the state justified
+abbrev pub ColumnFails :
+    (Row → State → Kinds → ℕ) → Pins → ℕ → Kinds → List TrackLemma → State → ℕ → Step → Type 0
+ColumnFails value pins limit k lemmas s allowed step =
+    (way : List NetTrack) → StepFailsListed value pins limit k lemmas (lemma_at s allowed way) step
 
--- the state after a possible next column, the gaps that are left there, and the nets with places there or later
-pub record IsAhead (k : Kinds) (s : State) (allowed : ℕ) (step : Step) (ahead : Ahead) : Type 0 where
+-- the state after a possible next column that leaves no line crowded, the gaps that are left there, and the nets with
+-- places there or later
+pub record IsAhead
+    (pins : Pins) (limit : ℕ) (k : Kinds) (s : State) (allowed : ℕ) (step : Step) (ahead : Ahead) : Type 0 where
   pub possible : IsPossible k s step
   pub numbered : IsNumbered k ahead.state
   pub state : ahead.state.state ≡ state_after k s step
   pub left : cost_of s (column_of k step) + ahead.left ≡ allowed
   pub nets : marked ahead.nets ≡ is_still_ahead k (state_after k s step)
+  pub free : step_uncrowded pins limit k s step ≡ true
 
 -- a lemma is about the way, or it has all tracks of one of the ways
 abbrev pub IsTaken : List TrackLemma → State → ℕ → List (List NetTrack) → List NetTrack → Type 0
@@ -109,7 +113,7 @@ pub record IsKept
     : Type 0 where
   pub kept : AreKept value pins limit k gaps progress.lemmas
   pub few : length progress.lemmas ≤ budget
-  pub noted : IsNoted k progress
+  pub noted : IsNoted value pins limit k progress
 
 -- So they are after a visit. Those before it come first; the others are of states with fewer columns left than these.
 pub record IsGrown

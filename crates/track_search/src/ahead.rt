@@ -1,17 +1,18 @@
 // A next column that the gaps allow and that leaves no line crowded.
-ghost use Rattle.std.specs.Prelude.{◌≡◌, IfNone, IfOk, IfSome};
+ghost use Rattle.std.specs.Prelude.{◌≡◌, IfNone, IfOk, IfSome, OnOk};
 ghost use Rattle.row_state.specs.Candidates.{IsCandidate, IsNumbered};
 ghost use Rattle.row_state.specs.Start.{IsState, start_of};
 ghost use Rattle.track_check.specs.Touches.{AreTouches};
 ghost use Rattle.track_ways.specs.States.{is_behind};
 ghost use Rattle.track_ways.specs.Tables.{marked};
-ghost use Rattle.track_search.specs.Visit.{AlwaysFails, IsAhead};
+ghost use Rattle.track_search.specs.Visit.{ColumnFails, IsAhead, IsKept};
 
+use crate::progress::Progress;
 use cell_num::{NoMemory, Pins};
 use row_state::{Candidate, Kinds, Numbered, RowBound, State};
 use row_trails::NETS;
 use std::alloc::Global;
-use track_check::{needs_more, nets_ahead, state_nets, touches};
+use track_check::{nets_ahead, state_nets, touches};
 use track_ways::step_uncrowded;
 
 /// What a search is given.
@@ -54,10 +55,12 @@ pub(crate) fn nets_before<B: RowBound>(task: &Task<B>, state: &State) -> [bool; 
     nets.before
 }
 
-/// The state after the column, or none where the column may not come next, needs more gaps than are allowed, or leaves
-/// a line crowded. `before` has the nets with a place before the state.
+/// The state after the column, or none where the column may not come next, needs more gaps than are allowed, leaves a
+/// line crowded, or leads to a state that a kept lemma without tracks is about. `before` has the nets with a place
+/// before the state.
 pub(crate) fn state_ahead<B: RowBound>(
     task: &Task<B>,
+    progress: &mut Progress,
     at: &Numbered,
     before: &[bool; NETS],
     next: &Candidate,
@@ -66,11 +69,17 @@ pub(crate) fn state_ahead<B: RowBound>(
     requires numbered { IsNumbered task.now.kinds.now at.now }
     requires before { marked before.now ≡ is_behind task.now.kinds.now at.now.state }
     requires next { IsCandidate task.now.kinds.now next.now }
-    ensures none { IfOk result (λ ahead. IfNone ahead (AlwaysFails (B.value task.now.bound.now) task.now.pins.now
-        task.now.limit task.now.kinds.now at.now.state allowed next.now.step)) }
-    ensures some { IfOk result (λ ahead. IfSome ahead (IsAhead task.now.kinds.now at.now.state allowed
-        next.now.step)) }
+    requires kept { IsKept (B.value task.now.bound.now) task.now.pins.now task.now.limit task.now.kinds.now
+        task.now.gaps task.now.budget progress.old }
+    ensures kept { OnOk result (IsKept (B.value task.now.bound.now) task.now.pins.now task.now.limit
+        task.now.kinds.now task.now.gaps task.now.budget progress.new) }
+    ensures lemmas { progress.new.lemmas ≡ progress.old.lemmas }
+    ensures none { IfOk result (λ ahead. IfNone ahead (ColumnFails (B.value task.now.bound.now) task.now.pins.now
+        task.now.limit task.now.kinds.now progress.new.lemmas at.now.state allowed next.now.step)) }
+    ensures some { IfOk result (λ ahead. IfSome ahead (IsAhead task.now.pins.now task.now.limit task.now.kinds.now
+        at.now.state allowed next.now.step)) }
 {
+    task.kinds.show_limits();
     if !at.allows(task.kinds, next) {
         return Ok(None);
     }
@@ -79,8 +88,12 @@ pub(crate) fn state_ahead<B: RowBound>(
         return Ok(None);
     }
     let left = allowed - cost;
+    if progress.is_shut(task, at.code_behind(task.kinds, next), left) {
+        return Ok(None);
+    }
     let state = at.behind(task.alloc, task.kinds, next)?;
-    if needs_more(task.bound, task.kinds, &state.state, left) {
+    let needs = progress.needs(task, &state)?;
+    if left < needs {
         return Ok(None);
     }
     let here = touches(task.kinds, &state.state);

@@ -1,39 +1,62 @@
-// Numbers of gaps by state.
-ghost use Rattle.std.specs.Prelude.{◌≡◌, ◌≢◌, ℕ, OnOk, Some, None};
-ghost use Rattle.track_search.specs.Bare.{gaps_at};
+// What is known of states, by their numbers.
+ghost use Rattle.std.specs.Prelude.{◌≡◌, ◌≢◌, ◌⊎◌, ◌↔◌, ℕ, OnOk};
+ghost use Rattle.track_search.specs.Bare.{IsBare, IsUpTo, known_at, nothing_known};
 
+use crate::known::{Known, most, nothing_known};
 use cell_num::NoMemory;
 use std::alloc::Global;
 use std::collections::HashMap;
+use track_ways::TrackLemma;
 
-/// A number of gaps for each of some states, by the number of the state.
+/// What is known of some states, by the numbers of the states.
 #[derive(Drop)]
-pub(crate) struct GapsByState {
-    gaps: HashMap<u128, u32>,
+pub(crate) struct ByState {
+    known: HashMap<u128, Known>,
 }
 
-impl GapsByState {
-    pub(crate) fn new(alloc: Global) -> GapsByState
-        ensures { (number : ℕ) → gaps_at result number ≡ None }
+impl ByState {
+    pub(crate) fn new(alloc: Global) -> ByState
+        ensures { (number : ℕ) → known_at result number ≡ nothing_known }
     {
-        GapsByState {
-            gaps: HashMap::new(alloc),
+        ByState {
+            known: HashMap::new(alloc),
         }
     }
 
-    pub(crate) fn at(&self, number: u128) -> Option<u32>
-        ensures { result ≡ gaps_at self.now number }
+    pub(crate) fn at(&self, number: u128) -> Known
+        ensures { result ≡ known_at self.now number }
     {
-        self.gaps.get(&number).copied()
+        match self.known.get(&number) {
+            Some(known) => *known,
+            None => nothing_known(),
+        }
     }
 
-    pub(crate) fn set(&mut self, number: u128, gaps: u32) -> Result<(), NoMemory>
-        ensures set { OnOk result (gaps_at self.new number ≡ Some gaps) }
-        ensures others { OnOk result ((q : ℕ) → q ≢ number → gaps_at self.new q ≡ gaps_at self.old q) }
+    pub(crate) fn set(&mut self, number: u128, known: Known) -> Result<(), NoMemory>
+        ensures set { OnOk result (known_at self.new number ≡ known) }
+        ensures others { OnOk result ((q : ℕ) → q ≢ number → known_at self.new q ≡ known_at self.old q) }
     {
-        match self.gaps.insert(number, gaps) {
+        match self.known.insert(number, known) {
             Ok(_) => Ok(()),
             Err(_) => Err(NoMemory),
         }
     }
+}
+
+/// Notes the gaps of a lemma without tracks on the state with the number.
+#[tactic(auto, using(crate::proofs::Bare::not_bare, crate::proofs::Bare::bare_set))]
+pub(crate) fn note(known: &mut ByState, number: u128, lemma: &TrackLemma) -> Result<(), NoMemory>
+    ensures here { OnOk result ((n : ℕ) → IsUpTo (known_at known.new number).closed n
+        ↔ (IsUpTo (known_at known.old number).closed n ⊎ IsBare lemma.now n)) }
+    ensures needs { OnOk result ((known_at known.new number).needs ≡ (known_at known.old number).needs) }
+    ensures free { OnOk result ((known_at known.new number).free ≡ (known_at known.old number).free) }
+    ensures others { OnOk result ((q : ℕ) → q ≢ number → known_at known.new q ≡ known_at known.old q) }
+{
+    if lemma.tracks.len() > 0 {
+        return Ok(());
+    }
+    let here = known.at(number);
+    let closed = Some(most(here.closed, lemma.gaps));
+    known.set(number, Known { closed, ..here })?;
+    Ok(())
 }

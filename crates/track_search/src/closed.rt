@@ -1,5 +1,5 @@
 // States of which each completion has a crowded line: for all tracks at once.
-ghost use Rattle.std.specs.Prelude.{◌≡◌, ◌+◌, ◌≤◌, [], ◌∷◌, All, Any, IfErr, IfOk, IsTrue, OnOk, false};
+ghost use Rattle.std.specs.Prelude.{ℕ, ◌≡◌, ◌+◌, ◌≤◌, [], ◌∷◌, All, Any, IfErr, IfOk, IsTrue, OnOk, false};
 ghost use Rattle.row_state.specs.Candidates.{AreCandidates, IsNumbered};
 ghost use Rattle.row_state.specs.Start.{HasFingers, IsState, columns_left, start_of};
 ghost use Rattle.track_ways.specs.Certificate.{CoversAll};
@@ -8,13 +8,13 @@ ghost use Rattle.track_ways.specs.States.{is_behind};
 ghost use Rattle.track_ways.specs.Tables.{marked};
 ghost use Rattle.track_check.specs.Touches.{AreTouches};
 ghost use Rattle.track_search.specs.Kept.{IsSpentBelow};
+ghost use Rattle.track_search.specs.Uncrowded.{HasUncrowded};
 ghost use Rattle.track_search.specs.Visit.{EndsFail, IsGrown, IsKept};
-ghost use Rattle.track_search.specs.declared.halt.Halt.TheVariants.{Spent};
+ghost use Rattle.cell_num.specs.declared.halt.Halt.TheVariants.{Spent};
 
 use crate::ahead::{Task, nets_before, state_ahead};
-use crate::halt::Halt;
 use crate::progress::Progress;
-use cell_num::NoMemory;
+use cell_num::{Halt, NoMemory};
 use row_state::{Numbered, RowBound, State, has_fingers};
 use row_trails::NETS;
 use track_ways::{NetTracks, end_uncrowded};
@@ -27,8 +27,10 @@ fn ends_open<B: RowBound>(
 ) -> Result<bool, NoMemory>
     requires state { IsState task.now.kinds.now state.now }
     requires before { marked before.now ≡ is_behind task.now.kinds.now state.now }
-    ensures { IfOk result (λ r. r ≡ false → (HasFingers task.now.kinds.now state.now → ⊥)
+    ensures no { IfOk result (λ r. r ≡ false → (HasFingers task.now.kinds.now state.now → ⊥)
         → All (EndsFail task.now.pins.now task.now.limit task.now.kinds.now state.now) ([] ∷ [])) }
+    ensures yes { IfOk result (λ r. IsTrue r → (gaps : ℕ) → HasUncrowded task.now.pins.now task.now.limit
+        task.now.kinds.now state.now gaps) }
 {
     if has_fingers(state) {
         return Ok(false);
@@ -38,7 +40,7 @@ fn ends_open<B: RowBound>(
 }
 
 /// Whether a kept lemma without tracks is about the state and as many gaps as are allowed. It asks for one and keeps
-/// it where each completion has a crowded line. Where it answers false, nothing is promised.
+/// it where each completion has a crowded line. Where it answers false, some completion with that many gaps has none.
 pub(crate) fn closes<B: RowBound>(
     task: &Task<B>,
     progress: &mut Progress,
@@ -56,11 +58,13 @@ pub(crate) fn closes<B: RowBound>(
         task.now.kinds.now task.now.gaps task.now.budget (columns_left task.now.kinds.now at.now.state + 1)
         progress.old progress.new) }
     ensures closed { IfOk result (λ closed. IsTrue closed → Any (CoversAll at.now.state allowed) progress.new.lemmas) }
+    ensures free { IfOk result (λ closed. closed ≡ false → HasUncrowded task.now.pins.now task.now.limit
+        task.now.kinds.now at.now.state allowed) }
     ensures spent { IfErr result (λ halt. halt ≡ Spent → IsSpentBelow (B.value task.now.bound.now) task.now.pins.now
         task.now.limit task.now.kinds.now task.now.gaps task.now.budget) }
 {
     task.kinds.show_limits();
-    if progress.is_open(at, allowed) {
+    if progress.is_free(task, at, allowed) {
         return Ok(false);
     }
     if progress.is_closed(task, at, allowed) {
@@ -68,11 +72,11 @@ pub(crate) fn closes<B: RowBound>(
     }
     let before = nets_before(task, &at.state);
     if ends_open(task, &at.state, &before)? {
-        progress.note_open(at, allowed)?;
+        progress.note_free(task, at, allowed)?;
         return Ok(false);
     }
     for next in task.candidates {
-        let Some(ahead) = state_ahead(task, at, &before, next, allowed)? else {
+        let Some(ahead) = state_ahead(task, progress, at, &before, next, allowed)? else {
             continue;
         };
         let closed = match closes(task, progress, &ahead.state, ahead.left) {
@@ -80,7 +84,7 @@ pub(crate) fn closes<B: RowBound>(
             Err(halt) => return Err(halt),
         };
         if !closed {
-            progress.note_open(at, allowed)?;
+            progress.note_free(task, at, allowed)?;
             return Ok(false);
         }
     }

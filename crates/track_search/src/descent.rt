@@ -6,14 +6,14 @@ ghost use Rattle.track_check.specs.Touches.{AreTouches};
 ghost use Rattle.track_search.specs.First.{IsFirstRouted};
 ghost use Rattle.track_search.specs.Kept.{IsSpentBelow};
 ghost use Rattle.track_search.specs.Visit.{AreBelow, AreCovered, AreFresh, AreWaysAt, IsGrown, IsKept};
-ghost use Rattle.track_search.specs.declared.halt.Halt.TheVariants.{Spent};
+ghost use Rattle.cell_num.specs.declared.halt.Halt.TheVariants.{Spent};
 
 use crate::ahead::{Task, nets_before, state_ahead};
 use crate::closed::closes;
 use crate::ends::ends;
-use crate::halt::Halt;
 use crate::onward::onward_ways;
 use crate::progress::Progress;
+use cell_num::Halt;
 use row_state::{Numbered, RowBound, Steps};
 use track_ways::TrackWays;
 
@@ -54,7 +54,7 @@ pub(crate) fn visit<B: RowBound>(
         return Ok(Some(Steps::new(task.alloc)));
     }
     for next in task.candidates {
-        let Some(ahead) = state_ahead(task, at, &before, next, allowed)? else {
+        let Some(ahead) = state_ahead(task, progress, at, &before, next, allowed)? else {
             continue;
         };
         let closed = match closes(task, progress, &ahead.state, ahead.left) {

@@ -8,7 +8,7 @@ mod closed;
 mod descent;
 mod ends;
 mod fewest;
-mod halt;
+mod known;
 mod laws;
 mod limit;
 mod lowest;

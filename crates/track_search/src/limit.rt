@@ -5,16 +5,15 @@ ghost use Rattle.row_state.specs.Start.{start_of};
 ghost use Rattle.row_state.specs.Steps.{column_of};
 ghost use Rattle.track_check.specs.Touches.{AreTouches};
 ghost use Rattle.track_ways.specs.Certificate.{Certifies};
-ghost use Rattle.track_search.specs.declared.halt.Halt.TheVariants.{Spent};
+ghost use Rattle.cell_num.specs.declared.halt.Halt.TheVariants.{Spent};
 ghost use Rattle.track_search.specs.Bare.{IsNoted};
 ghost use Rattle.track_search.specs.Kept.{AreKept, IsSpentBelow};
 ghost use Rattle.track_search.specs.Limit.{HasReason, IsEnd, IsFirstRow, NeedsMoreTracks};
 
 use crate::ahead::Task;
 use crate::descent::visit;
-use crate::halt::Halt;
 use crate::progress::Progress;
-use cell_num::{List, NoMemory, Pins};
+use cell_num::{Halt, List, NoMemory, Pins};
 use row_model::{Arrangement, Column};
 use row_state::{Kinds, Numbered, RowBound, Step, candidates, column, start};
 use std::alloc::{AllocError, Global};
@@ -76,7 +75,8 @@ fn search_start<B: RowBound>(
     requires state { first.now.state ≡ start_of task.now.kinds.now }
     requires numbered { IsNumbered task.now.kinds.now first.now }
     requires lemmas { progress.old.lemmas ≡ [] }
-    requires noted { IsNoted task.now.kinds.now progress.old }
+    requires noted { IsNoted (B.value task.now.bound.now) task.now.pins.now task.now.limit task.now.kinds.now
+        progress.old }
     ensures found { IfOk result (λ r. IfSome r (IsFirstRow task.now.pins.now task.now.limit task.now.kinds.now
         task.now.gaps)) }
     ensures none { IfOk result (λ r. IfNone r (Certifies (B.value task.now.bound.now) task.now.pins.now task.now.limit

@@ -8,7 +8,7 @@ ghost use Rattle.track_check.specs.Noted.{AreNotedAt};
 ghost use Rattle.track_search.specs.Visit.{AreAdded, AreFresh, AreTaken, GoOn, HasPart};
 
 use crate::ahead::{Ahead, Task};
-use crate::progress::copied_way;
+use crate::order::copied_way;
 use cell_num::NoMemory;
 use row_state::{Candidate, Numbered, RowBound, State};
 use row_trails::NETS;

@@ -1,10 +1,13 @@
-// The tracks of a way in order of their nets.
+// The tracks of a way in order of their nets, and the lemma that is kept of it.
 ghost use Rattle.std.specs.Prelude.{◌≡◌, IfOk};
 ghost use Rattle.std.specs.Option.{option_copied};
 ghost use Rattle.track_search.specs.InOrder.{in_order, track_in};
+ghost use Rattle.track_search.specs.Visit.{kept_at};
 
+use cell_num::{List, NoMemory};
+use row_state::State;
 use std::alloc::{AllocError, Global};
-use track_ways::NetTrack;
+use track_ways::{NetTrack, NetTracks, TrackLemma};
 
 fn find_track(way: &[NetTrack], net: u32) -> Option<&NetTrack>
     ensures { option_copied result ≡ track_in way.now net }
@@ -29,4 +32,44 @@ pub(crate) fn in_order(
     (0..nets)
         .filter_map(|net| track_in(way, net))
         .collect(alloc)
+}
+
+fn copied_state(state: &State) -> Result<State, NoMemory>
+    ensures { IfOk result (λ copy. copy ≡ state.now) }
+{
+    Ok(state.clone()?)
+}
+
+/// The same tracks again.
+pub(crate) fn copied_way(alloc: Global, way: &NetTracks) -> Result<NetTracks, NoMemory>
+    ensures { IfOk result (λ copy. copy ≡ way.now) }
+{
+    let mut copy = NetTracks::new(alloc);
+    copy.extend(way.as_slice())?;
+    Ok(copy)
+}
+
+fn ordered_way(alloc: Global, nets: u32, way: &NetTracks) -> Result<NetTracks, NoMemory>
+    ensures { IfOk result (λ ordered. ordered ≡ in_order nets way.now) }
+{
+    Ok(List::from_vec(in_order(alloc, nets, way.as_slice())?))
+}
+
+/// The lemma that no completion of the state with at most that many gaps goes on from the way.
+pub(crate) fn kept_at(
+    alloc: Global,
+    nets: u32,
+    state: &State,
+    gaps: u32,
+    way: &NetTracks,
+) -> Result<TrackLemma, NoMemory>
+    ensures { IfOk result (λ lemma. lemma ≡ kept_at nets state.now gaps way.now) }
+{
+    let state = copied_state(state)?;
+    let tracks = ordered_way(alloc, nets, way)?;
+    Ok(TrackLemma {
+        state,
+        gaps,
+        tracks,
+    })
 }

@@ -1,123 +1,48 @@
-ghost use Rattle.std.specs.Prelude.{◌≡◌, ◌≢◌, ◌≤◌, ◌⊎◌, ◌↔◌, ◌++◌, ◌∷◌, [], ℕ};
-ghost use Rattle.std.specs.Prelude.{Any, IfErr, IfOk, IsTrue, OnOk, length, map};
+ghost use Rattle.std.specs.Prelude.{◌≡◌, ◌≤◌, ◌↔◌, ◌++◌, ◌∷◌, [], ℕ};
+ghost use Rattle.std.specs.Prelude.{Any, IfErr, IfOk, IsTrue, OnOk, Some, length, map, false};
+ghost use Rattle.cell_num.specs.declared.finger.Row.{Row as RowOf};
+ghost use Rattle.cell_num.specs.declared.net.Pins.{Pins as PinsOf};
 ghost use Rattle.row_state.specs.declared.kind.Kinds.{Kinds as KindsOf};
+ghost use Rattle.row_state.specs.declared.state.State.{State as StateOf};
 ghost use Rattle.row_state.specs.Candidates.{IsNumbered};
+ghost use Rattle.row_state.specs.Code.{state_code};
+ghost use Rattle.row_state.specs.Start.{IsState};
 ghost use Rattle.track_ways.specs.Certificate.{CoversAll};
-ghost use Rattle.track_search.specs.Bare.{IsBare, IsNoted, IsUpTo, gaps_at};
-ghost use Rattle.track_search.specs.InOrder.{in_order};
+ghost use Rattle.track_search.specs.Bare.{AreNeeded, IsFrom, IsNoted, IsShut, known_at};
+ghost use Rattle.track_search.specs.Uncrowded.{HasUncrowded};
 ghost use Rattle.track_search.specs.Visit.{IsCutOff, kept_at};
-ghost use Rattle.track_search.specs.declared.halt.Halt.TheVariants.{Spent};
+ghost use Rattle.cell_num.specs.declared.halt.Halt.TheVariants.{Spent};
 
 use crate::ahead::Task;
-use crate::by_state::GapsByState;
-use crate::halt::Halt;
-use crate::order::in_order;
-use cell_num::{List, NoMemory};
-use row_state::{Numbered, RowBound, State};
+use crate::by_state::{ByState, note};
+use crate::known::{Known, count_needed, is_below, is_from, is_up_to};
+use crate::order::kept_at;
+use cell_num::{Halt, NoMemory};
+use row_cycles::Places;
+use row_state::{Numbered, RowBound};
 use std::alloc::Global;
-use track_check::{NotedLemmas, Places};
-use track_ways::{NetTracks, TrackLemma, TrackLemmas};
+use track_check::NotedLemmas;
+use track_ways::{NetTracks, TrackLemmas};
 
-/// What a search knows so far: the lemmas that it kept, and hints that make it quick.
+/// What a search knows so far: the lemmas that it kept, and what makes it quick.
 #[derive(Drop)]
 pub(crate) struct Progress {
     pub lemmas: TrackLemmas,
     places: Places,
-    // The most gaps of the lemmas without tracks.
-    bare: GapsByState,
-    // The fewest gaps with which a state is known to have a completion without a crowded line.
-    open: GapsByState,
-}
-
-fn copied_state(state: &State) -> Result<State, NoMemory>
-    ensures { IfOk result (λ copy. copy ≡ state.now) }
-{
-    Ok(state.clone()?)
-}
-
-/// The same tracks again.
-pub(crate) fn copied_way(alloc: Global, way: &NetTracks) -> Result<NetTracks, NoMemory>
-    ensures { IfOk result (λ copy. copy ≡ way.now) }
-{
-    let mut copy = NetTracks::new(alloc);
-    copy.extend(way.as_slice())?;
-    Ok(copy)
-}
-
-fn ordered_way(alloc: Global, nets: u32, way: &NetTracks) -> Result<NetTracks, NoMemory>
-    ensures { IfOk result (λ ordered. ordered ≡ in_order nets way.now) }
-{
-    Ok(List::from_vec(in_order(alloc, nets, way.as_slice())?))
-}
-
-// The lemma that no completion of the state with at most that many gaps goes on from the way.
-fn kept_at(
-    alloc: Global,
-    nets: u32,
-    state: &State,
-    gaps: u32,
-    way: &NetTracks,
-) -> Result<TrackLemma, NoMemory>
-    ensures { IfOk result (λ lemma. lemma ≡ kept_at nets state.now gaps way.now) }
-{
-    let state = copied_state(state)?;
-    let tracks = ordered_way(alloc, nets, way)?;
-    Ok(TrackLemma {
-        state,
-        gaps,
-        tracks,
-    })
-}
-
-// The greater of the two.
-#[tactic(auto, using(crate::proofs::Bare::up_none, crate::proofs::Bare::up_gaps, crate::proofs::Bare::up_noted))]
-fn most(noted: Option<u32>, gaps: u32) -> u32
-    ensures { (n : ℕ) → n ≤ result ↔ (IsUpTo noted n ⊎ (n ≤ gaps)) }
-{
-    let Some(most) = noted else {
-        return gaps;
-    };
-    if most < gaps {
-        return gaps;
-    }
-    most
-}
-
-fn is_up_to(noted: Option<u32>, gaps: u32) -> bool
-    ensures { IsTrue result ↔ IsUpTo noted gaps }
-{
-    match noted {
-        Some(most) => gaps <= most,
-        None => false,
-    }
-}
-
-// Notes the gaps of a lemma without tracks on the state with the number.
-#[tactic(auto, using(crate::proofs::Bare::not_bare, crate::proofs::Bare::bare_set))]
-fn note(bare: &mut GapsByState, number: u128, lemma: &TrackLemma) -> Result<(), NoMemory>
-    ensures here { OnOk result ((n : ℕ) → IsUpTo (gaps_at bare.new number) n
-        ↔ (IsUpTo (gaps_at bare.old number) n ⊎ IsBare lemma.now n)) }
-    ensures others { OnOk result ((q : ℕ) → q ≢ number → gaps_at bare.new q ≡ gaps_at bare.old q) }
-{
-    if lemma.tracks.len() > 0 {
-        return Ok(());
-    }
-    let gaps = most(bare.at(number), lemma.gaps);
-    bare.set(number, gaps)?;
-    Ok(())
+    known: ByState,
 }
 
 impl Progress {
     /// No lemma is kept.
     pub(crate) fn new(alloc: Global) -> Progress
         ensures lemmas { result.lemmas ≡ [] }
-        ensures noted { (k : KindsOf) → IsNoted k result }
+        ensures noted { (value : RowOf → StateOf → KindsOf → ℕ) (pins : PinsOf) (limit : ℕ) (k : KindsOf)
+            → IsNoted value pins limit k result }
     {
         Progress {
             lemmas: TrackLemmas::new(alloc),
             places: Places::new(alloc),
-            bare: GapsByState::new(alloc),
-            open: GapsByState::new(alloc),
+            known: ByState::new(alloc),
         }
     }
 
@@ -135,27 +60,82 @@ impl Progress {
     /// Whether a kept lemma without tracks is about the state and as many gaps.
     pub(crate) fn is_closed<B: RowBound>(&self, task: &Task<B>, at: &Numbered, gaps: u32) -> bool
         requires numbered { IsNumbered task.now.kinds.now at.now }
-        requires noted { IsNoted task.now.kinds.now self.now }
+        requires noted { IsNoted (B.value task.now.bound.now) task.now.pins.now task.now.limit task.now.kinds.now
+            self.now }
         ensures { IsTrue result ↔ Any (CoversAll at.now.state gaps) self.now.lemmas }
     {
-        is_up_to(self.bare.at(at.code), gaps)
+        is_up_to(self.known.at(at.code).closed, gaps)
     }
 
-    /// Whether the state is known to be open with that many gaps. It is a hint alone.
-    pub(crate) fn is_open(&self, at: &Numbered, gaps: u32) -> bool {
-        match self.open.at(at.code) {
-            Some(fewest) => fewest <= gaps,
-            None => false,
-        }
-    }
-
-    /// Notes that the state is open with that many gaps.
-    pub(crate) fn note_open(&mut self, at: &Numbered, gaps: u32) -> Result<(), NoMemory>
-        ensures lemmas { self.new.lemmas ≡ self.old.lemmas }
-        ensures places { self.new.places ≡ self.old.places }
-        ensures bare { self.new.bare ≡ self.old.bare }
+    /// Whether it is known that the state with the number needs more gaps by the bounds of its rows, or a kept lemma
+    /// without tracks is about it and as many gaps.
+    pub(crate) fn is_shut<B: RowBound>(&self, task: &Task<B>, number: u128, gaps: u32) -> bool
+        requires noted { IsNoted (B.value task.now.bound.now) task.now.pins.now task.now.limit task.now.kinds.now
+            self.now }
+        ensures yes { (s : StateOf) → IsState task.now.kinds.now s → number ≡ state_code task.now.kinds.now s
+            → IsTrue result → IsShut (B.value task.now.bound.now) task.now.kinds.now self.now.lemmas s gaps }
+        ensures no { (s : StateOf) → IsState task.now.kinds.now s → number ≡ state_code task.now.kinds.now s
+            → result ≡ false → Any (CoversAll s gaps) self.now.lemmas → ⊥ }
     {
-        self.open.set(at.code, gaps)?;
+        let known = self.known.at(number);
+        is_up_to(known.closed, gaps) || is_below(known.needs, gaps)
+    }
+
+    /// How many gaps the state needs by the bounds of its rows. It is counted once for each state.
+    pub(crate) fn needs<B: RowBound>(
+        &mut self,
+        task: &Task<B>,
+        at: &Numbered,
+    ) -> Result<u32, NoMemory>
+        requires numbered { IsNumbered task.now.kinds.now at.now }
+        requires noted { IsNoted (B.value task.now.bound.now) task.now.pins.now task.now.limit task.now.kinds.now
+            self.old }
+        ensures needs { IfOk result (AreNeeded (B.value task.now.bound.now) task.now.kinds.now at.now.state) }
+        ensures lemmas { self.new.lemmas ≡ self.old.lemmas }
+        ensures noted { OnOk result (IsNoted (B.value task.now.bound.now) task.now.pins.now task.now.limit
+            task.now.kinds.now self.new) }
+    {
+        let here = self.known.at(at.code);
+        if let Some(needs) = here.needs {
+            return Ok(needs);
+        }
+        let count = count_needed(task.bound, task.kinds, &at.state);
+        let needs = Some(count);
+        self.known.set(at.code, Known { needs, ..here })?;
+        Ok(count)
+    }
+
+    /// Whether the state is known to have a completion without a crowded line, with that many gaps.
+    pub(crate) fn is_free<B: RowBound>(&self, task: &Task<B>, at: &Numbered, gaps: u32) -> bool
+        requires numbered { IsNumbered task.now.kinds.now at.now }
+        requires noted { IsNoted (B.value task.now.bound.now) task.now.pins.now task.now.limit task.now.kinds.now
+            self.now }
+        ensures is { IsTrue result ↔ IsFrom (known_at self.now.known at.now.code).free gaps }
+        ensures free { IsTrue result → HasUncrowded task.now.pins.now task.now.limit task.now.kinds.now at.now.state
+            gaps }
+    {
+        is_from(self.known.at(at.code).free, gaps)
+    }
+
+    /// Notes that the state has a completion without a crowded line with that many gaps.
+    pub(crate) fn note_free<B: RowBound>(
+        &mut self,
+        task: &Task<B>,
+        at: &Numbered,
+        gaps: u32,
+    ) -> Result<(), NoMemory>
+        requires numbered { IsNumbered task.now.kinds.now at.now }
+        requires noted { IsNoted (B.value task.now.bound.now) task.now.pins.now task.now.limit task.now.kinds.now
+            self.old }
+        requires free { HasUncrowded task.now.pins.now task.now.limit task.now.kinds.now at.now.state gaps }
+        ensures lemmas { self.new.lemmas ≡ self.old.lemmas }
+        ensures free { OnOk result ((known_at self.new.known at.now.code).free ≡ Some gaps) }
+        ensures noted { OnOk result (IsNoted (B.value task.now.bound.now) task.now.pins.now task.now.limit
+            task.now.kinds.now self.new) }
+    {
+        let here = self.known.at(at.code);
+        let free = Some(gaps);
+        self.known.set(at.code, Known { free, ..here })?;
         Ok(())
     }
 
@@ -168,14 +148,16 @@ impl Progress {
         way: &NetTracks,
     ) -> Result<(), NoMemory>
         requires numbered { IsNumbered task.now.kinds.now at.now }
-        requires noted { IsNoted task.now.kinds.now self.old }
+        requires noted { IsNoted (B.value task.now.bound.now) task.now.pins.now task.now.limit task.now.kinds.now
+            self.old }
         ensures lemmas { OnOk result (self.new.lemmas
             ≡ self.old.lemmas ++ kept_at task.now.kinds.now.nets at.now.state gaps way.now ∷ []) }
-        ensures noted { OnOk result (IsNoted task.now.kinds.now self.new) }
+        ensures noted { OnOk result (IsNoted (B.value task.now.bound.now) task.now.pins.now task.now.limit
+            task.now.kinds.now self.new) }
     {
         let kinds = task.kinds;
         let lemma = kept_at(task.alloc, kinds.nets, &at.state, gaps, way)?;
-        note(&mut self.bare, at.code, &lemma)?;
+        note(&mut self.known, at.code, &lemma)?;
         self.places.add(task.alloc, at.code, self.lemmas.len())?;
         self.lemmas.push(lemma)?;
         Ok(())
@@ -190,10 +172,12 @@ impl Progress {
         way: &NetTracks,
     ) -> Result<(), Halt>
         requires numbered { IsNumbered task.now.kinds.now at.now }
-        requires noted { IsNoted task.now.kinds.now self.old }
+        requires noted { IsNoted (B.value task.now.bound.now) task.now.pins.now task.now.limit task.now.kinds.now
+            self.old }
         ensures lemmas { OnOk result (self.new.lemmas
             ≡ self.old.lemmas ++ kept_at task.now.kinds.now.nets at.now.state gaps way.now ∷ []) }
-        ensures noted { OnOk result (IsNoted task.now.kinds.now self.new) }
+        ensures noted { OnOk result (IsNoted (B.value task.now.bound.now) task.now.pins.now task.now.limit
+            task.now.kinds.now self.new) }
         ensures few { OnOk result (length self.new.lemmas ≤ task.now.budget) }
         ensures spent { IfErr result (λ halt. halt ≡ Spent → IsCutOff task.now.budget (self.old.lemmas
             ++ kept_at task.now.kinds.now.nets at.now.state gaps way.now ∷ []) self.new.lemmas) }
@@ -214,11 +198,13 @@ impl Progress {
         ways: &[NetTracks],
     ) -> Result<(), Halt>
         requires numbered { IsNumbered task.now.kinds.now at.now }
-        requires noted { IsNoted task.now.kinds.now self.old }
+        requires noted { IsNoted (B.value task.now.bound.now) task.now.pins.now task.now.limit task.now.kinds.now
+            self.old }
         requires few { length self.old.lemmas ≤ task.now.budget }
         ensures lemmas { OnOk result (self.new.lemmas
             ≡ self.old.lemmas ++ map (kept_at task.now.kinds.now.nets at.now.state gaps) ways.now) }
-        ensures noted { OnOk result (IsNoted task.now.kinds.now self.new) }
+        ensures noted { OnOk result (IsNoted (B.value task.now.bound.now) task.now.pins.now task.now.limit
+            task.now.kinds.now self.new) }
         ensures few { OnOk result (length self.new.lemmas ≤ task.now.budget) }
         ensures spent { IfErr result (λ halt. halt ≡ Spent → IsCutOff task.now.budget (self.old.lemmas
             ++ map (kept_at task.now.kinds.now.nets at.now.state gaps) ways.now) self.new.lemmas) }

@@ -21,7 +21,8 @@ use Rattle.row_state.specs.declared.state.State.{State}
 use Rattle.row_state.specs.Completion.{left_in, Completes}
 use Rattle.row_state.specs.Start.{start_of}
 use Rattle.track_ways.specs.declared.line.Line.{Line}
-use Rattle.track_ways.specs.Lines.{is_net, is_ahead, is_rail, is_open}
+use Rattle.track_ways.specs.Lines.{is_net, is_ahead, is_open}
+use Rattle.cell_num.specs.Pins.{is_rail}
 use Rattle.track_ways.specs.Rows.{left_end, right_end, node_line, gate_line, is_gap_behind, lines_between, lines_behind, lines_before, end_after}
 use Rattle.track_ways.specs.States.{touches, touched, touched_left, touched_here, is_behind, is_still_ahead, is_open_at, IsBehind}
 use Rattle.track_ways.proofs.Counts.{one_if, all_places}

@@ -9,7 +9,7 @@ use Rattle.cell_num.proofs.Pairs.{Some', some_from_any, any_from_some}
 use Rattle.row_state.specs.declared.kind.Kinds.{Kinds}
 use Rattle.row_state.specs.declared.state.State.{State}
 use Rattle.row_state.specs.Steps.{column_of, state_after, IsPossible}
-use Rattle.track_ways.specs.Lines.{is_rail}
+use Rattle.cell_num.specs.Pins.{is_rail}
 use Rattle.track_ways.specs.Rows.{node_line}
 use Rattle.track_ways.specs.States.{is_behind, is_still_ahead, is_open_at}
 use Rattle.track_ways.specs.Paths.{lines_to, Ends, EndsFit, Goes}

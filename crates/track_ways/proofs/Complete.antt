@@ -9,7 +9,8 @@ use Rattle.cell_num.proofs.In.{contains_flat}
 use Rattle.cell_num.proofs.Lists.{all_from_contains, contains_cons, contains_here, contains_none, contains_there}
 use Rattle.cell_num.proofs.Pairs.{Some'}
 use Rattle.track_ways.specs.declared.line.Line.{Line}
-use Rattle.track_ways.specs.Lines.{has_place, is_ahead, is_held, is_net, is_open, is_rail, is_twice, with_line, LineFits, Passes}
+use Rattle.track_ways.specs.Lines.{has_place, is_ahead, is_held, is_net, is_open, is_twice, with_line, LineFits, Passes}
+use Rattle.cell_num.specs.Pins.{is_rail}
 use Rattle.track_ways.proofs.Places.{kept, some_is_net}
 use Rattle.track_ways.specs.declared.track.NetTrack.{NetTrack}
 use Rattle.track_ways.specs.Tracks.{AreTracksOf}

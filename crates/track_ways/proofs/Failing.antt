@@ -28,7 +28,8 @@ use Rattle.row_state.specs.Start.{start_of, GatesAreNets, AreKinds, HasFingers}
 use Rattle.row_state.specs.Steps.{column_of, state_after, IsPossible}
 use Rattle.row_state.proofs.Unfold.{completion_of, further_step, gaps_from_start, unfold_from}
 use Rattle.track_ways.specs.declared.line.Line.{Line}
-use Rattle.track_ways.specs.Lines.{has_place, is_twice, is_ahead, is_rail, is_open, is_held, Passes, Fits}
+use Rattle.track_ways.specs.Lines.{has_place, is_twice, is_ahead, is_open, is_held, Passes, Fits}
+use Rattle.cell_num.specs.Pins.{is_rail}
 use Rattle.track_ways.specs.Rows.{left_end, node_line, gate_line, is_gap_behind, lines_of_row}
 use Rattle.track_ways.specs.States.{is_behind, is_still_ahead, is_open_at}
 use Rattle.track_ways.specs.Paths.{lines_to, Goes, Ends, Runs, Leads}

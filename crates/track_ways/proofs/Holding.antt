@@ -3,12 +3,12 @@ use Rattle.std.proofs.Common.{ℕ, zero, suc, ◌≡◌, ◌+◌, ◌<◌, ◌�
 use Rattle.std.proofs.lemmas.Bool.{cases_Bool, and_parts, and_from, or_left, or_right, or_cases, or_parts, ltb-true, lt-ltb, not_from_false, not-true}
 use Rattle.cell_num.specs.declared.net.NetNo.{NetNo}
 use Rattle.cell_num.specs.declared.net.Pins.{Pins}
-use Rattle.cell_num.specs.Pins.{IsRail}
+use Rattle.cell_num.specs.Pins.{IsRail, is_rail}
 use Rattle.row_model.proofs.Decide.{net_decides}
 use Rattle.row_place.specs.declared.placement.Placement.{Placement}
 use Rattle.row_place.specs.Trunks.{lines_of, HasTrunk}
 use Rattle.track_ways.specs.declared.line.Line.{Line}
-use Rattle.track_ways.specs.Lines.{is_net, has_place, is_twice, is_ahead, is_rail, begins_or_ends, is_held}
+use Rattle.track_ways.specs.Lines.{is_net, has_place, is_twice, is_ahead, begins_or_ends, is_held}
 use Rattle.track_ways.specs.Channel.{IsPlain, AreLinesOf}
 use Rattle.track_ways.proofs.Places.{at_line, line_at, at_lines}
 use Rattle.track_ways.proofs.Counts.{places, all_places, count_is}

@@ -12,7 +12,8 @@ use Rattle.channel_route.specs.declared.routing.Trunk.{Trunk}
 use Rattle.channel_route.specs.declared.routing.Routing.{Routing}
 use Rattle.channel_route.specs.Routing.{IsLegal}
 use Rattle.track_ways.specs.declared.line.Line.{Line}
-use Rattle.track_ways.specs.Lines.{is_ahead, is_rail, is_open, is_held, LineFits, Fits, Sweeps}
+use Rattle.track_ways.specs.Lines.{is_ahead, is_open, is_held, LineFits, Fits, Sweeps}
+use Rattle.cell_num.specs.Pins.{is_rail}
 use Rattle.track_ways.specs.Channel.{AreLinesOf, AreTrunks, AreLegalWithin, track_in}
 use Rattle.track_ways.proofs.Tracks.{sweep}
 use Rattle.track_ways.proofs.Holding.{holding}

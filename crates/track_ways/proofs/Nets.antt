@@ -19,7 +19,8 @@ use Rattle.row_state.specs.declared.state.State.{State}
 use Rattle.row_state.specs.declared.step.Side.{Side}
 use Rattle.row_state.specs.declared.step.Step.{Step}
 use Rattle.row_state.specs.Completion.{fingers_left}
-use Rattle.row_state.specs.ComponentLaw.{EndsBelow, ends_left}
+use Rattle.row_state.specs.ClassWalks.{EndsBelow}
+use Rattle.row_state.specs.ComponentLaw.{ends_left}
 use Rattle.row_state.specs.Law.{gates_left}
 use Rattle.row_state.specs.Start.{AreSomeKinds, EndsAreNets, GatesAreNets, IsState, counts_of, start_of}
 use Rattle.row_state.specs.Steps.{column_of, oriented_of, placed_of}

@@ -4,7 +4,8 @@ use Rattle.std.proofs.lemmas.Bool.{cases_Bool, and_parts, and_from, or_left, or_
 use Rattle.cell_num.specs.declared.net.NetNo.{NetNo}
 use Rattle.cell_num.specs.declared.net.Pins.{Pins}
 use Rattle.track_ways.specs.declared.line.Line.{Line}
-use Rattle.track_ways.specs.Lines.{has_place, is_twice, is_ahead, with_line, is_rail, is_open, is_held, LineFits, Fits, Agrees, Sweeps, chosen}
+use Rattle.track_ways.specs.Lines.{has_place, is_twice, is_ahead, with_line, is_open, is_held, LineFits, Fits, Agrees, Sweeps, chosen}
+use Rattle.cell_num.specs.Pins.{is_rail}
 
 -- a net that is held has a place before the line or at it, and one at it or behind
 held_seen : (pins : Pins) (before : NetNo → Bool) (line : Line) (rest : List Line) (net : NetNo) → is_held pins before line (is_ahead rest) net ≡ true → with_line before line net ≡ true

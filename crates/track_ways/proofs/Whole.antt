@@ -18,7 +18,8 @@ use Rattle.row_state.specs.Start.{start_of, GatesAreNets, AreKinds}
 use Rattle.row_state.specs.Steps.{column_of, state_after}
 use Rattle.row_state.proofs.Unfold.{unfold_from, completion_of}
 use Rattle.track_ways.specs.declared.line.Line.{Line}
-use Rattle.track_ways.specs.Lines.{is_ahead, is_rail, with_line, LineFits, Fits, Agrees, Sweeps, Passes}
+use Rattle.track_ways.specs.Lines.{is_ahead, with_line, LineFits, Fits, Agrees, Sweeps, Passes}
+use Rattle.cell_num.specs.Pins.{is_rail}
 use Rattle.track_ways.specs.Channel.{AreLinesOf, AreTrunks}
 use Rattle.track_ways.specs.Rows.{lines_of_row, node_line}
 use Rattle.track_ways.specs.States.{touched_left, touched_here, is_behind, is_still_ahead, is_open_at}

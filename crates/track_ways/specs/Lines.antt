@@ -3,6 +3,7 @@ use Rattle.std.specs.Prelude.{ℕ, ◌≡◌, ◌≢◌, ◌<◌, ◌&&◌, ◌|
 use Rattle.std.specs.Prelude.{List, [], ◌∷◌, Option, Some, None}
 use Rattle.cell_num.specs.declared.net.NetNo.{NetNo}
 use Rattle.cell_num.specs.declared.net.Pins.{Pins}
+use Rattle.cell_num.specs.Pins.{is_rail}
 use Rattle.track_ways.specs.declared.line.Line.{Line}
 
 abbrev pub is_net : Option NetNo → NetNo → Bool
@@ -24,9 +25,6 @@ is_ahead (line ∷ lines) net = has_place line net || is_ahead lines net
 -- the nets with a place so far, and those of one more line
 abbrev pub with_line : (NetNo → Bool) → Line → NetNo → Bool
 with_line before line net = before net || has_place line net
-
-abbrev pub is_rail : Pins → NetNo → Bool
-is_rail pins net = (net.0 == pins.vdd.0) || (net.0 == pins.gnd.0)
 
 -- Open between two lines: the net has a place before and one after, so a trunk of it goes through.
 abbrev pub is_open : Pins → (NetNo → Bool) → (NetNo → Bool) → NetNo → Bool

@@ -10,7 +10,8 @@ use Rattle.row_state.specs.declared.kind.Kinds.{Kinds}
 use Rattle.row_state.specs.declared.state.State.{State}
 use Rattle.row_state.specs.Completion.{left_in}
 use Rattle.row_state.specs.Start.{start_of}
-use Rattle.track_ways.specs.Lines.{is_net, is_rail}
+use Rattle.track_ways.specs.Lines.{is_net}
+use Rattle.cell_num.specs.Pins.{is_rail}
 use Rattle.track_ways.specs.Rows.{end_after}
 
 -- how often the net is an end or the gate of a finger

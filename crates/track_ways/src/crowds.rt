@@ -12,7 +12,7 @@ ghost use Rattle.track_ways.specs.declared.track.NetTrack.{NetTrack};
 use crate::held::is_held;
 use crate::line::Line;
 use crate::lines::{last_line, lines_to, no_nets};
-use crate::table::with_line;
+use crate::table::mark_line;
 use cell_num::{NetNo, NoMemory, Pins};
 use row_state::{Kinds, State, Step, column};
 use row_trails::NETS;
@@ -38,16 +38,17 @@ fn nets_at(
 }
 
 // Whether no line is crowded, of lines of which `before` and `after` have the nets with a place before and after them.
+// Nets of the lines are added to `before` on the way.
 fn none_crowded(
     pins: &Pins,
     limit: u32,
     nets: u32,
-    before: &[bool; NETS],
+    before: &mut [bool; NETS],
     lines: &[Line],
     after: &[bool; NETS],
 ) -> bool
     requires { All (HasEntries 256) lines.now }
-    ensures { result ≡ none_crowded pins.now limit nets (marked before.now) lines.now (marked after.now) }
+    ensures { result ≡ none_crowded pins.now limit nets (marked before.old) lines.now (marked after.now) }
 {
     let Some((line, rest)) = lines.split_first() else {
         return true;
@@ -55,8 +56,8 @@ fn none_crowded(
     if nets_at(pins, nets, before, line, rest, after) > limit as usize {
         return false;
     }
-    let here = with_line(before, line);
-    none_crowded(pins, limit, nets, &here, rest, after)
+    mark_line(before, line);
+    none_crowded(pins, limit, nets, before, rest, after)
 }
 
 /// Whether no line to the next column is crowded. `before` has the nets with a place before the state, `after` those
@@ -81,7 +82,8 @@ pub fn step_uncrowded(
 {
     kinds.show_limits();
     let lines = lines_to(alloc, state, &column(step, kinds))?;
-    let free = none_crowded(pins, limit, kinds.nets, before, &lines, after);
+    let mut earlier = *before;
+    let free = none_crowded(pins, limit, kinds.nets, &mut earlier, &lines, after);
     Ok(free)
 }
 
@@ -104,6 +106,7 @@ pub fn end_uncrowded(
     kinds.show_limits();
     let lines = last_line(alloc, state)?;
     let none = no_nets();
-    let free = none_crowded(pins, limit, kinds.nets, before, &lines, &none);
+    let mut earlier = *before;
+    let free = none_crowded(pins, limit, kinds.nets, &mut earlier, &lines, &none);
     Ok(free)
 }

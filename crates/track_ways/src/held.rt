@@ -1,6 +1,6 @@
 ghost use Rattle.std.specs.Prelude.{◌≡◌, ◌||◌};
 ghost use Rattle.row_trails.specs.Counts.{flag};
-ghost use Rattle.track_ways.specs.Lines.{is_net, has_place, is_ahead, is_open, is_held, is_rail, begins_or_ends};
+ghost use Rattle.track_ways.specs.Lines.{is_net, has_place, is_ahead, is_open, is_held, begins_or_ends};
 ghost use Rattle.track_ways.specs.Tables.{marked};
 
 use crate::line::Line;
@@ -32,13 +32,6 @@ pub fn is_marked(table: &[bool; NETS], net: NetNo) -> bool
     }
 }
 
-/// Whether the net is one of the rails.
-pub fn is_rail(pins: &Pins, net: NetNo) -> bool
-    ensures { result ≡ is_rail pins.now net }
-{
-    net.0 == pins.vdd.0 || net.0 == pins.gnd.0
-}
-
 fn is_ahead(lines: &[Line], net: NetNo) -> bool
     ensures { result ≡ is_ahead lines.now net }
 {
@@ -51,7 +44,8 @@ fn is_ahead(lines: &[Line], net: NetNo) -> bool
 fn is_later(lines: &[Line], behind: &[bool; NETS], net: NetNo) -> bool
     ensures { result ≡ (is_ahead lines.now net || marked behind.now net) }
 {
-    is_ahead(lines, net) || is_marked(behind, net)
+    // (most nets that are later at all are so after the lines, and that is quickly seen)
+    is_marked(behind, net) || is_ahead(lines, net)
 }
 
 /// Whether the net is open before the lines, of which `before` and `behind` have the nets with a place before and
@@ -65,7 +59,7 @@ pub(crate) fn is_open(
 ) -> bool
     ensures { result ≡ is_open pins.now (marked before.now) (λ n. is_ahead lines.now n || marked behind.now n) net }
 {
-    !is_rail(pins, net) && (is_marked(before, net) && is_later(lines, behind, net))
+    !pins.is_rail(net) && (is_marked(before, net) && is_later(lines, behind, net))
 }
 
 fn begins_or_ends(pins: &Pins, before: bool, line: &Line, behind: bool, net: NetNo) -> bool
@@ -90,7 +84,7 @@ pub(crate) fn is_held(
 {
     let earlier = is_marked(before, net);
     // (most nets have no place so far, and that is quickly seen)
-    if is_rail(pins, net) || !(earlier || has_place(line, net)) {
+    if pins.is_rail(net) || !(earlier || has_place(line, net)) {
         return false;
     }
     let later = is_later(rest, behind, net);

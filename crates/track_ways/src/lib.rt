@@ -19,7 +19,7 @@ mod table;
 pub mod track;
 
 pub use crowds::{end_uncrowded, step_uncrowded};
-pub use held::{is_marked, is_rail};
+pub use held::is_marked;
 pub use laws::tracks_listed;
 pub use lemma::{TrackLemma, TrackLemmas};
 pub use lemma_laws::{lemmas_checked, tracks_by_lemmas};

@@ -78,7 +78,8 @@ fn add_fills(
     ways: &mut TrackWays,
 ) -> Result<(), NoMemory>
     requires fit { line_test limit line.now tracks.items ≡ true }
-    ensures { OnOk result (ways.new ≡ ways.old ++ filter (line_test limit line.now) (fills limit nets.now tracks.items)) }
+    ensures { OnOk result (ways.new ≡ ways.old
+        ++ filter (line_test limit line.now) (fills limit nets.now tracks.items)) }
 {
     let Some((net, rest)) = nets.split_first() else {
         ways.push(List::from_vec(tracks))?;

@@ -18,11 +18,11 @@ fn mark(table: &mut [bool; NETS], place: &Option<NetNo>)
     }
 }
 
-fn mark_line(table: &mut [bool; NETS], line: &Line)
+/// Adds the nets with a place at the line to the table.
+#[tactic(auto, using(crate::proofs::Tables::line_marked))]
+pub(crate) fn mark_line(table: &mut [bool; NETS], line: &Line)
     requires { HasEntries 256 line.now }
-    ensures { (u : ℕ) → flag table.new u ≡
-        (((flag table.old u || is_net line.now.p (net_of u)) || is_net line.now.n (net_of u))
-        || is_net line.now.gate (net_of u)) }
+    ensures { marked table.new ≡ with_line (marked table.old) line.now }
 {
     mark(table, &line.p);
     mark(table, &line.n);
@@ -30,7 +30,6 @@ fn mark_line(table: &mut [bool; NETS], line: &Line)
 }
 
 /// The nets of the table, and those with a place at the line.
-#[tactic(auto, using(crate::proofs::Tables::line_marked))]
 pub(crate) fn with_line(before: &[bool; NETS], line: &Line) -> [bool; NETS]
     requires { HasEntries 256 line.now }
     ensures { marked result ≡ with_line (marked before.now) line.now }

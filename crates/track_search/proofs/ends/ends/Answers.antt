@@ -1,6 +1,6 @@
 use Rattle.std.proofs.Common.{All, Any, subst}
 use Rattle.track_search.specs.Visit.{EndsFail}
-use Rattle.track_check.proofs.Loops.{not_both}
+use Rattle.row_cycles.proofs.Loops.{not_both}
 use Rattle.track_search.proofs.ends.ends.Goals as goal
 
 pub returns-then-has_fingers-clause-no : goal.returns-then-has_fingers-clause-no

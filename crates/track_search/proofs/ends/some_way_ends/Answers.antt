@@ -1,5 +1,5 @@
 use Rattle.track_search.specs.Visit.{EndsFail}
-use Rattle.track_check.proofs.Loops.{all_end, one_more}
+use Rattle.row_cycles.proofs.Loops.{all_end, one_more}
 use Rattle.track_search.proofs.ends.some_way_ends.Goals as goal
 
 pub loop-way-preserved : goal.loop-way-preserved

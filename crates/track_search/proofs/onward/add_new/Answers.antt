@@ -1,6 +1,6 @@
 use Rattle.std.proofs.Common.{All, Any, ap, inl, inr, subst, sym, ◌++◌, ◌∷◌, [], ◌∙◌}
 use Rattle.track_ways.specs.Checked.{CoversListed}
-use Rattle.track_check.proofs.Loops.{not_both}
+use Rattle.row_cycles.proofs.Loops.{not_both}
 use Rattle.track_search.specs.Visit.{HasPart}
 use Rattle.track_search.proofs.Lists.{added_all, added_none, added_push, added_taken, fresh_push}
 use Rattle.track_search.proofs.onward.add_new.Goals as goal

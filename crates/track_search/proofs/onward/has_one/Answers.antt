@@ -1,5 +1,5 @@
 use Rattle.track_search.specs.Visit.{HasPart}
-use Rattle.track_check.proofs.Loops.{all_end, any_here, not_both, one_more}
+use Rattle.row_cycles.proofs.Loops.{all_end, any_here, not_both, one_more}
 use Rattle.track_search.proofs.onward.has_one.Goals as goal
 
 pub loop-other-preserved : goal.loop-other-preserved

@@ -1,6 +1,6 @@
 use Rattle.std.proofs.Common.{All, subst, ◌∙◌}
 use Rattle.track_search.specs.Visit.{AreTaken}
-use Rattle.track_check.proofs.Loops.{all_end}
+use Rattle.row_cycles.proofs.Loops.{all_end}
 use Rattle.track_search.proofs.Lists.{fresh_none, onward_more, onward_none}
 use Rattle.track_search.proofs.onward.onward_ways.Goals as goal
 
