@@ -13,3 +13,10 @@ pub mod GivenRows
 pub mod Planned
 pub mod Lows
 pub mod LowChecked
+pub mod LowAccepted
+pub mod Arranged
+pub mod Columns
+pub mod Listing
+pub mod Only
+pub mod Sides
+pub mod Rules

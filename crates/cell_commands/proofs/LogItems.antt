@@ -19,6 +19,7 @@ use Rattle.bound_log.specs.declared.log.LogStep.{LogStep}
 use Rattle.bound_log.specs.declared.log.Best.{Best}
 use Rattle.bound_log.specs.declared.log.Entry.{Entry}
 use Rattle.bound_log.specs.declared.log.Entry.TheVariants as entry
+use Rattle.bound_log.specs.declared.log.Ending.TheVariants as ending
 use Rattle.bound_log.specs.declared.log.Log.{Log}
 use Rattle.bound_log.specs.declared.said.Said.{Said}
 use Rattle.bound_log.specs.Line.{column_in, entry_in, version_in}
@@ -147,8 +148,8 @@ FollowsSaid said = Follows said.item said.next
 entry_leads : (o : Option Entry) (f : LogFault) → IfOk (entry_says o f) LeadsSaid
 entry_leads None f = tt
 entry_leads (Some (entry.Lemma lemma)) f = tt
-entry_leads (Some (entry.Gaps gaps)) f = tt
-entry_leads (Some entry.Open) f = tt
+entry_leads (Some (entry.Ending (ending.Gaps gaps))) f = tt
+entry_leads (Some (entry.Ending ending.Open)) f = tt
 
 column_leads : (o : Option LogStep) (f : LogFault) → IfOk (column_says o f) LeadsSaid
 column_leads None f = tt

@@ -10,8 +10,8 @@ use Rattle.row_state.specs.Component.{component_value}
 use Rattle.row_state.specs.Start.{AreKinds, AreSomeKinds}
 use Rattle.bound_log.specs.declared.log.Best.{Best}
 use Rattle.row_search.specs.First.{IsFirstLeast}
-use Rattle.row_list.specs.Listed.{IsBestOf}
-use Rattle.row_list.proofs.Listing.{certified_too, solved_too}
+use Rattle.cell_commands.specs.Listed.{IsBestOf}
+use Rattle.cell_commands.proofs.Listing.{certified_too, solved_too}
 use Rattle.call_words.specs.declared.evidence.Evidence.{Evidence}
 use Rattle.call_words.specs.declared.evidence.Evidence.TheVariants.{Log, Trails}
 use Rattle.call_end.specs.declared.end.End.{End}

@@ -10,9 +10,12 @@ pub mod Make
 pub mod Plan
 pub mod Searched
 pub mod Low
+pub mod Listed
+pub mod Other
 pub mod LowCheck
 -- What inner contracts and proofs alone cite.
 pub mod Judged
 pub mod Certificate
 pub mod LowEnds
 pub mod Relisted
+pub mod Sides

@@ -8,6 +8,8 @@ use Rattle.row_state.specs.Component.{component_value}
 use Rattle.channel_route.specs.declared.routing.Routing.{Routing}
 use Rattle.channel_route.specs.Routing.{IsLegal}
 use Rattle.log_check.specs.Accepted.{WithKinds}
+use Rattle.track_log.specs.declared.certificate.TrackCertificate.{TrackCertificate}
+use Rattle.track_log.specs.Text.{certificate_text}
 use Rattle.track_check.specs.declared.accept.TracksProved.{TracksProved}
 use Rattle.track_check.specs.declared.rejected.TextRejected.{TextRejected}
 use Rattle.track_check.specs.declared.rejected.TextRejected.TheVariants as because
@@ -25,6 +27,12 @@ abbrev pub IsTextOfTracks : Inputs → List ℕ → TracksProved → Type 0
 IsTextOfTracks inputs bytes proved =
     WithKinds inputs.fingers
     (λ k. IsAccepted component_value inputs.cell.pins k inputs.cell.name bytes proved)
+
+-- the text of the certificate is accepted, and proves its gaps and its tracks
+abbrev pub IsAcceptedTracks : Inputs → TrackCertificate → Type 0
+IsAcceptedTracks inputs tracks =
+    IsTextOfTracks inputs (certificate_text inputs.cell.name tracks)
+    (record { gaps = tracks.gaps; tracks = tracks.tracks })
 
 -- each legal routing of each arrangement with at most that many gaps takes that many tracks or more
 abbrev pub NeedTracks : Inputs → TracksProved → Type 0

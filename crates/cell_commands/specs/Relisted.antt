@@ -6,8 +6,8 @@ use Rattle.call_words.specs.declared.evidence.Evidence.{Evidence}
 use Rattle.call_words.specs.declared.evidence.Evidence.TheVariants.{Log, Trails}
 use Rattle.cell_inputs.specs.Inputs.{Inputs}
 use Rattle.log_check.specs.Accepted.{WithKinds}
-use Rattle.row_list.specs.Listed.{IsBestOf}
-use Rattle.row_list.specs.Other.{log_listing, trails_listing}
+use Rattle.cell_commands.specs.Listed.{IsBestOf}
+use Rattle.cell_commands.specs.Other.{log_listing, trails_listing}
 use Rattle.cell_commands.specs.declared.certificate.Certificate.{Certificate}
 use Rattle.cell_commands.specs.declared.certificate.Certificate.TheVariants as held
 use Rattle.cell_commands.specs.Searched.{IsFoundBy}

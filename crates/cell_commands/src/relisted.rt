@@ -2,11 +2,12 @@ ghost use Rattle.std.specs.Prelude.{◌≡◌, IfOk};
 ghost use Rattle.row_model.specs.Arrangement.{IsArrangement};
 ghost use Rattle.cell_commands.specs.Relisted.{ListsInstead, listing};
 
+use crate::best::list_best;
 use crate::certificate::Certificate;
+use crate::other::trails_listing;
 use bound_log::Best;
 use cell_inputs::Inputs;
 use cell_num::NoMemory;
-use row_list::{list_best, trails_listing};
 use row_model::Arrangement;
 use row_state::kinds;
 use std::alloc::Global;

@@ -1,10 +1,11 @@
 -- The lowest row: of all rows with the fewest gaps the first on the fewest tracks, with the first of its routings on
 -- these tracks. What the search for it results in, and what drawing it does.
-use Rattle.std.specs.Prelude.{ℕ, ◌≡◌, ◌≤◌, ◌⊎◌, Bool, true, false, List}
+use Rattle.std.specs.Prelude.{ℕ, ◌≡◌, ◌≤◌, ◌⊎◌, Bool, true, false, List, [], length}
 use Rattle.cell_num.specs.declared.finger.Fingers.{Fingers}
 use Rattle.row_model.specs.declared.column.Column.{Column}
 use Rattle.row_model.specs.Arrangement.{IsArrangement}
 use Rattle.row_model.specs.Gaps.{gaps_of}
+use Rattle.row_state.specs.declared.kind.Kinds.{Kinds}
 use Rattle.row_state.specs.Component.{component_value}
 use Rattle.row_state.specs.Order.{RowBefore}
 use Rattle.log_check.specs.Accepted.{WithKinds}
@@ -15,6 +16,8 @@ use Rattle.channel_route.specs.declared.routing.Routing.{Routing}
 use Rattle.channel_route.specs.Cycle.{HasNoCycle}
 use Rattle.channel_route.specs.Routing.{IsLegal}
 use Rattle.first_route.specs.First.{IsFirstRouting}
+use Rattle.row_cycles.specs.Certificate.{Certifies}
+use Rattle.cycle_search.specs.Search.{AreKept, IsSpent}
 use Rattle.track_log.specs.declared.certificate.TrackCertificate.{TrackCertificate}
 use Rattle.track_log.specs.Fits.{CertificateFits}
 use Rattle.track_search.specs.Fewest.{Prove}
@@ -53,20 +56,32 @@ pub record HasFirstLeast (inputs : Inputs) : Type 0 where
   pub first : IsFirstLeast inputs.fingers row
   pub pins : HasPins (placement_of row) inputs.cell.pins
 
--- The certificate says how many gaps the least rows have, and how many tracks each of them takes at least. Where these
--- are not 0, its lemmas certify it, and a text can hold it. The lemmas that the search kept on fewer tracks, with its
--- own, are no more than the budget.
+-- The lemmas of the certificate certify that no row has one track less, where its tracks are some. Those that the
+-- search kept on fewer tracks, with these, are no more than the budget.
+pub record CertifiesTracks (inputs : Inputs) (k : Kinds) (certificate : TrackCertificate) : Type 0 where
+  pub certified :
+      Prove component_value inputs.cell.pins k certificate.gaps certificate.tracks certificate.lemmas
+  pub within :
+      IsKeptWithin component_value inputs.cell.pins k certificate.gaps certificate.tracks inputs.tech.budget
+      certificate.lemmas
+  pub alone : certificate.cycles ≡ []
+
+-- Its lemmas on cycles certify that no row can be wired. None follows from an earlier one, and they are no more than
+-- the budget.
+pub record CertifiesCycles (inputs : Inputs) (k : Kinds) (certificate : TrackCertificate) : Type 0 where
+  pub certified : Certifies component_value inputs.cell.pins k certificate.gaps certificate.cycles
+  pub kept : AreKept component_value inputs.cell.pins k certificate.gaps certificate.cycles
+  pub within : length certificate.cycles ≤ inputs.tech.budget
+  pub alone : certificate.lemmas ≡ []
+
+-- The certificate says how many gaps the least rows have, and how many tracks each of them takes at least. Its lemmas
+-- certify it, or its lemmas on cycles. Where the tracks are not 0, a text can hold it.
 pub record ProvesTracks (inputs : Inputs) (certificate : TrackCertificate) : Type 0 where
   pub gaps : (row : List Column) → IsLeast inputs.fingers row → gaps_of row ≡ certificate.gaps
   pub least : TakeAtLeast inputs certificate.tracks
   pub certified :
-      WithKinds inputs.fingers (λ k.
-      Prove component_value inputs.cell.pins k certificate.gaps certificate.tracks certificate.lemmas)
+      WithKinds inputs.fingers (λ k. CertifiesTracks inputs k certificate ⊎ CertifiesCycles inputs k certificate)
   pub fits : 1 ≤ certificate.tracks → WithKinds inputs.fingers (λ k. CertificateFits k certificate)
-  pub within :
-      WithKinds inputs.fingers (λ k.
-      IsKeptWithin component_value inputs.cell.pins k certificate.gaps certificate.tracks inputs.tech.budget
-      certificate.lemmas)
 
 -- The row is the first of the least rows that have a legal routing on that many tracks, none has one on fewer, and the
 -- routing is the first of its legal ones on these tracks.
@@ -83,17 +98,33 @@ pub record IsLowest (inputs : Inputs) (row : List Column) (routing : Routing) (t
 
 -- ---- where the search for it is open
 
--- its budget is spent, by the lemmas of the search for the row or by the tries of the search for its routing
+-- Some least row is wired, and the budget is spent, by the lemmas of the search for the row on the fewest tracks or by
+-- the tries of the search for its routing.
+pub record IsLowestSpent (inputs : Inputs) (k : Kinds) (certificate : TrackCertificate) : Type 0 where
+  pub wired : NoneIsWired inputs → ⊥
+  pub spent :
+      IsBudgetSpent component_value inputs.cell.pins k certificate.gaps certificate.tracks inputs.tech.budget
+
+-- A least row has a cycle, and the budget is spent by the lemmas on cycles of the search for one that has none. Then
+-- nothing is proved of the tracks.
+pub record IsWiredSpent (inputs : Inputs) (k : Kinds) (certificate : TrackCertificate) : Type 0 where
+  pub row : List Column
+  pub least : IsLeast inputs.fingers row
+  pub cyclic : HasNoCycle (placement_of row) inputs.cell.pins → ⊥
+  pub spent : IsSpent component_value inputs.cell.pins k certificate.gaps inputs.tech.budget
+  pub nothing : certificate.tracks ≡ 0
+
+-- its budget is spent, in one of its two searches
 abbrev pub IsTrackSpent : Inputs → TrackCertificate → Type 0
 IsTrackSpent inputs certificate =
-    WithKinds inputs.fingers (λ k.
-    IsBudgetSpent component_value inputs.cell.pins k certificate.gaps certificate.tracks inputs.tech.budget)
+    WithKinds inputs.fingers (λ k. IsLowestSpent inputs k certificate ⊎ IsWiredSpent inputs k certificate)
 
--- No least row is wired, and the certificate proves it: a legal routing has fewer tracks than the cell has nets, and
--- each least row takes as many.
+-- No least row is wired, and lemmas on cycles certify it. So each takes as many tracks as the cell has nets: a legal
+-- routing has fewer.
 pub record ProvesNoneIsWired (inputs : Inputs) (certificate : TrackCertificate) : Type 0 where
   pub none : NoneIsWired inputs
   pub tracks : certificate.tracks ≡ inputs.fingers.nets
+  pub certified : WithKinds inputs.fingers (λ k. CertifiesCycles inputs k certificate)
 
 -- no least row is wired, or the budget is spent
 abbrev pub IsTrackOpen : Inputs → TrackCertificate → Type 0

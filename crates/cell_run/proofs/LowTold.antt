@@ -33,6 +33,7 @@ use Rattle.cell_commands.specs.declared.certificate.Certificate.{Certificate}
 use Rattle.cell_commands.specs.declared.certificate.Certificate.TheVariants as held
 use Rattle.cell_commands.specs.Low.{IsUnwiredEnd, MakesLowTo, low_evidence}
 use Rattle.cell_commands.specs.Low as low
+use Rattle.cell_commands.proofs.LowAccepted.{accepted_tracks}
 use Rattle.cell_commands.proofs.Lows.{first_least}
 use Rattle.cell_commands.specs.RowEnd.{IsRowEnd}
 use Rattle.cell_commands.specs.Searched.{IsCertifiedBy, IsFoundBy}
@@ -43,7 +44,7 @@ use Rattle.cell_run.specs.Ended.{WhereEnds}
 use Rattle.cell_run.specs.Evidence.{evidence_text}
 use Rattle.cell_run.specs.Headline.{IsCyclicCell, IsMadeCell, IsTallCell, IsUnmade}
 use Rattle.cell_run.specs.Low.{IsAskedLow, IsMakeLow, IsUnwiredCell}
-use Rattle.cell_run.specs.Origin.{Low}
+use Rattle.cell_run.specs.Origin.{CertifiesFewest, Low}
 
 -- ---- what the words ask for
 
@@ -113,13 +114,17 @@ LowLeaves evidence taps inputs out old new status.TooTall = (tracks : TrackCerti
 LowLeaves evidence taps inputs out old new status.Unfinished = IsUnmade evidence inputs out old new ⊎ IsUnwiredCell evidence (low_style taps) inputs out old new
 LowLeaves evidence taps inputs out old new _ = Unit {0}
 
+-- `check .. --low` accepts the text of what proves the fewest tracks
+fewest_certified : (inputs : Inputs) (tracks : TrackCertificate) → ProvesTracks inputs tracks → CertifiesFewest inputs tracks
+fewest_certified inputs tracks proves = record { proves = proves; accepted = accepted_tracks inputs tracks proves }
+
 made_so : (evidence : Evidence) (taps : Taps) (inputs : Inputs) (out : List ℕ) (row : List Column) (certificate : Certificate) (tracks : TrackCertificate) (drawing : DrawAnswer) (end : End) (answer : Status) (old new : View) → ProvesTracks inputs tracks → IsCertifiedBy evidence inputs row certificate → DrawsLow (low_style taps) inputs row tracks drawing → IsRowEnd (low_style taps) inputs out row (low_evidence inputs.cell out certificate tracks) drawing end → TellsWhole end answer old new → LowLeaves evidence taps inputs out old new answer
 made_so Log taps inputs out row (held.Log log) tracks drawing end answer old new proves certified h is whole =
     row_leaves (Low Log tracks) (low_style taps) inputs out row log (IsLowRouted (low_style taps) inputs row tracks) drawing end answer old new (LowLeaves Log taps inputs out old new) (λ x. (tracks, x)) (λ x. (tracks, x)) (λ x. (tracks, x))
-    (low_least taps inputs row tracks drawing h) (certified, proves) (low_drawn Log taps inputs row tracks drawing h) is whole
+    (low_least taps inputs row tracks drawing h) (certified, fewest_certified inputs tracks proves) (low_drawn Log taps inputs row tracks drawing h) is whole
 made_so Trails taps inputs out row (held.Trails trails) tracks drawing end answer old new proves certified h is whole =
     row_leaves (Low Trails tracks) (low_style taps) inputs out row trails (IsLowRouted (low_style taps) inputs row tracks) drawing end answer old new (LowLeaves Trails taps inputs out old new) (λ x. (tracks, x)) (λ x. (tracks, x)) (λ x. (tracks, x))
-    (low_least taps inputs row tracks drawing h) (certified, proves) (low_drawn Trails taps inputs row tracks drawing h) is whole
+    (low_least taps inputs row tracks drawing h) (certified, fewest_certified inputs tracks proves) (low_drawn Trails taps inputs row tracks drawing h) is whole
 made_so Log taps inputs out row (held.Trails trails) tracks drawing end answer old new proves certified h is whole = absurd certified
 made_so Trails taps inputs out row (held.Log log) tracks drawing end answer old new proves certified h is whole = absurd certified
 
@@ -131,7 +136,7 @@ unwired_so Log taps inputs out row (held.Log log) tracks ring end answer old new
   ring = ring;
   first = found.first;
   certified = found.certified;
-  proves = proves;
+  fewest = fewest_certified inputs tracks proves;
   spent = spent;
   is_ring = ring_is (low_style taps).wiring (placement_of row) inputs.cell.pins ring told;
   is_told = told;
@@ -145,7 +150,7 @@ unwired_so Trails taps inputs out row (held.Trails trails) tracks ring end answe
   ring = ring;
   first = found.first;
   certified = found.certified;
-  proves = proves;
+  fewest = fewest_certified inputs tracks proves;
   spent = spent;
   is_ring = ring_is (low_style taps).wiring (placement_of row) inputs.cell.pins ring told;
   is_told = told;

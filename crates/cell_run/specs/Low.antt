@@ -19,7 +19,7 @@ use Rattle.call_work.specs.Commands.{CheckingLow, MakingLow}
 use Rattle.call_work.specs.declared.material.LowMaterial.{LowMaterial}
 use Rattle.cell_inputs.specs.declared.style.Style.{Style}
 use Rattle.cell_inputs.specs.Inputs.{Inputs}
-use Rattle.cell_make.specs.Low.{IsTrackSpent, ProvesTracks, low_style}
+use Rattle.cell_make.specs.Low.{IsTrackSpent, low_style}
 use Rattle.cell_make.specs.Style.{IsRing, IsToldRing}
 use Rattle.cell_report.specs.Cells.{fewest_text}
 use Rattle.cell_report.specs.Cycles.{ring_text}
@@ -28,7 +28,7 @@ use Rattle.cell_commands.specs.LowCheck.{IsTextOfTracks, NeedTracks}
 use Rattle.cell_run.specs.Ended.{Gathers, IsOfKind, WhereEnds}
 use Rattle.cell_run.specs.Evidence.{Certificate, Certifies, evidence_text}
 use Rattle.cell_run.specs.Headline.{CanBeDrawn, IsCyclicCell, IsMadeCell, IsTallCell, IsUnmade, OfFirstLeast}
-use Rattle.cell_run.specs.Origin.{HasNoDrawing, Low}
+use Rattle.cell_run.specs.Origin.{CertifiesFewest, HasNoDrawing, Low}
 
 -- ---- `make`
 
@@ -63,8 +63,8 @@ abbrev pub IsTallLow : LowMaterial → View → View → Type 0
 IsTallLow m old new =
     (tracks : TrackCertificate) × IsTallCell (Low m.evidence tracks) (low_style m.taps) m.inputs m.stem old new
 
--- The search for the lowest row spent its budget, and nets of the first least row are above each other in a cycle. The
--- report says how many tracks each least row takes at least, and the cycle.
+-- One of the two searches for the lowest row spent its budget, and nets of the first least row are above each other
+-- in a cycle. The report says how many tracks each least row takes at least, and the cycle.
 pub record IsUnwiredCell (evidence : Evidence) (style : Style) (inputs : Inputs) (out : List ℕ)
     (old new : View) : Type 0 where
   pub row : List Column
@@ -73,7 +73,7 @@ pub record IsUnwiredCell (evidence : Evidence) (style : Style) (inputs : Inputs)
   pub ring : Ring
   pub first : IsFirstLeast inputs.fingers row
   pub certified : Certifies evidence inputs row certificate
-  pub proves : ProvesTracks inputs tracks
+  pub fewest : CertifiesFewest inputs tracks
   pub spent : IsTrackSpent inputs tracks
   pub is_ring : IsRing style.wiring (placement_of row) inputs.cell.pins ring
   pub is_told : IsToldRing style.wiring (placement_of row) inputs.cell.pins ring

@@ -1,6 +1,6 @@
 -- Where a row comes from: a search, a given file, or the search for the lowest of the rows with the fewest gaps. What
 -- is known of the row, of its evidence and of the files by that.
-use Rattle.std.specs.Prelude.{ℕ, ◌≡◌, ◌≢◌, List, [], ◌∷◌, ◌++◌, codes, All, Some}
+use Rattle.std.specs.Prelude.{ℕ, ◌≡◌, ◌≢◌, ◌≤◌, List, [], ◌∷◌, ◌++◌, codes, All, Some}
 use Rattle.cell_io.specs.Desk.{Files}
 use Rattle.cell_num.specs.declared.finger.Fingers.{Fingers}
 use Rattle.row_model.specs.declared.column.Column.{Column}
@@ -18,6 +18,7 @@ use Rattle.cell_make.specs.Style.{AreTight}
 use Rattle.cell_report.specs.Cells.{fewest_text}
 use Rattle.cell_commands.specs.Check as log
 use Rattle.cell_commands.specs.Low.{track_files}
+use Rattle.cell_commands.specs.LowCheck.{IsAcceptedTracks}
 use Rattle.cell_commands.specs.TrailCheck as trail
 use Rattle.cell_run.specs.Evidence.{Certificate, Certifies, HasCell, HasEvidence, evidence_name}
 
@@ -44,13 +45,19 @@ abbrev pub ListsIn : (evidence : Evidence) → Inputs → List ℕ → List Colu
 ListsIn Log inputs bytes row found = log.IsListed inputs bytes row found
 ListsIn Trails inputs bytes row found = trail.IsListed inputs bytes row found
 
+-- the certificate proves how many tracks each least row takes at least; where there is a file of it, `check .. --low`
+-- accepts that
+pub record CertifiesFewest (inputs : Inputs) (tracks : TrackCertificate) : Type 0 where
+  pub proves : ProvesTracks inputs tracks
+  pub accepted : 1 ≤ tracks.tracks → IsAcceptedTracks inputs tracks
+
 -- of a search its own certificate, of a file the one whose text its bytes are; either is accepted and lists the row. Of
 -- the search for the lowest row there are two: that of the row, and that of the fewest tracks.
 abbrev pub CertifiesBy : (origin : Origin) → Inputs → List Column → Certificate (kind_of_evidence origin) → Type 0
 CertifiesBy (Search evidence) inputs row certificate = Certifies evidence inputs row certificate
 CertifiesBy (File evidence bytes) inputs row certificate = ListsIn evidence inputs bytes row certificate
 CertifiesBy (Low evidence tracks) inputs row certificate =
-    Certifies evidence inputs row certificate × ProvesTracks inputs tracks
+    Certifies evidence inputs row certificate × CertifiesFewest inputs tracks
 
 -- Each trunk is on the least track that is free for it. Of the search for the lowest row: it is the first least row
 -- on the fewest tracks, with the first of its routings on these; or that search is open, and it is the first least row

@@ -16,7 +16,7 @@ use Rattle.row_place.specs.Steps.{gate_of}
 use Rattle.row_place.specs.Units.{seats_of}
 use Rattle.channel_route.specs.declared.routing.Routing.{Routing}
 use Rattle.channel_route.specs.declared.routing.Trunk.{Trunk}
-use Rattle.row_compact.specs.Entries.{is_rail}
+use Rattle.cell_num.specs.Pins.{is_rail}
 use Rattle.row_compact.specs.Solution.{x_of}
 use Rattle.box_geom.specs.declared.shape.Shape.{Shape}
 use Rattle.cell_draw.specs.declared.layout.Frame.{Frame}

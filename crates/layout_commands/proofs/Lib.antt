@@ -1,3 +1,4 @@
 pub mod Extracted
 pub mod Agreed
 pub mod RowEnds
+pub mod Rules

@@ -95,7 +95,7 @@ fn rules_of(deck: Deck) -> Rules
     }
 }
 
-#[tactic(auto, using(crate::proofs::Extracted::unchecked_answers, crate::proofs::Extracted::none_listed, crate::proofs::Extracted::some_listed))]
+#[tactic(auto, using(crate::proofs::Rules::drawing_answer_rules))]
 fn drawing_answer(alloc: Global, shapes: &Shapes, rules: Deck) -> Result<ExtractAnswer, NoMemory>
     ensures { IfOk result (IsDrawingAnswer rules shapes.now) }
 {

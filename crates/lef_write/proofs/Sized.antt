@@ -22,7 +22,7 @@ use Rattle.channel_route.specs.Routing.{IsLegal}
 use Rattle.channel_route.specs.Wiring.{IsWiring}
 use Rattle.channel_route.proofs.LegalWiring.{legal_wiring}
 use Rattle.row_compact.specs.Allowed.{AreAllowed, stretches_of}
-use Rattle.row_compact.specs.Entries.{is_rail}
+use Rattle.cell_num.specs.Pins.{is_rail}
 use Rattle.row_compact.specs.Solution.{x_of}
 use Rattle.row_compact.proofs.Within.{wired_right}
 use Rattle.cell_draw.specs.declared.layout.Bar.{Bar}

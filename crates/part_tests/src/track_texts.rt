@@ -54,6 +54,16 @@ lemma 12 0 0 - 3 1:10
 end
 ";
     assert!(rt; is_kept(alloc, listed)?);
+    let cycles = b"cellgen-tracks 1
+cell inv
+gaps 0
+tracks 2
+cycle 0 1 1 - - -
+cycle 3 0 0 1 1 1>3,3>1
+lemma 3 0 0 1 1 0:0
+end
+";
+    assert!(rt; is_kept(alloc, cycles)?);
     Ok(())
 }
 
@@ -76,6 +86,9 @@ fn rejects_texts(rt: HostRuntime) -> Result<(), Fail> {
         b"cellgen-tracks 1\ncell inv\ngaps 0\ntracks 1\nend\n",
     )?;
     assert!(rt; matches!(bare, Err(TextRejected::NoStart)));
+    let cycle = b"cellgen-tracks 1\ncell inv\ngaps 0\ntracks 1\ncycle 0 1 1 - - -\nend\n";
+    let wired = verdict(alloc, cycle)?;
+    assert!(rt; matches!(wired, Err(TextRejected::Unjustified { line: 5 })));
     let zero = verdict(
         alloc,
         b"cellgen-tracks 1\ncell inv\ngaps 00\ntracks 1\nend\n",

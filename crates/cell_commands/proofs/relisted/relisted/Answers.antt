@@ -1,7 +1,7 @@
 use Rattle.std.proofs.Common.{subst, sym}
 use Rattle.row_model.specs.Arrangement.{IsArrangement}
 use Rattle.cell_inputs.specs.Inputs.{Inputs, inputs_of}
-use Rattle.row_list.proofs.Arranged.{row_of}
+use Rattle.cell_commands.proofs.Arranged.{row_of}
 use Rattle.cell_commands.proofs.Lows.{lists_instead}
 use Rattle.cell_commands.proofs.relisted.relisted.Goals as goal
 

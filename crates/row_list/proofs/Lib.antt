@@ -1,5 +1,0 @@
-pub mod Arranged
-pub mod Columns
-pub mod Listing
-pub mod Only
-pub mod Sides
