@@ -1,6 +1,10 @@
 """The fewest tracks of all rows of a small cell, by listing all rows and trying tracks net by net: what the search of
-`tracks` is compared with. It goes by whole rows, not by states.
+`tracks` is compared with. It goes by whole rows, not by states. Lemmas on cycles are compared with all completions of
+their states.
 """
+import functools
+import itertools
+
 from tracks import after, cost
 
 
@@ -79,3 +83,35 @@ def fewest_tracks(cell, gaps, most):
     """The fewest tracks of the rows with at most N gaps, no more than `most`."""
     rows = list(rows_of(cell, cell.start, gaps))
     return next((tracks for tracks in range(most + 1) if any(is_wired(cell, row, tracks) for row in rows)), None)
+
+
+def asked_by(cell, state, row):
+    """The pairs of nets that the node lines of a completion ask for, from the state's last node line on."""
+    nets, line = {0: [state.p_end, state.n_end]}, 0
+    for column, gap in row:
+        line += 2 * gap
+        for row_at, place in enumerate(column):
+            if place:
+                nets.setdefault(line, [None, None])[row_at] = place.left
+                nets.setdefault(line + 2, [None, None])[row_at] = place.right
+        line += 2
+    return {(p, n) for p, n in nets.values() if None not in (p, n) and p != n and not {p, n} & cell.rails}
+
+
+def is_cyclic(pairs):
+    """Whether nets are left once those that are above no other one are taken away, again and again."""
+    nets = set(itertools.chain(*pairs))
+    while (kept := {upper for upper, lower in pairs if upper in nets and lower in nets}) != nets:
+        nets = kept
+    return bool(nets)
+
+
+@functools.lru_cache(maxsize=None)
+def asked_from(cell, state, gaps):
+    """The sets of pairs that the completions with at most so many further gaps ask for."""
+    return {frozenset(asked_by(cell, state, row)) for row in rows_of(cell, state, gaps)}
+
+
+def is_true(cell, lemma):
+    """Whether each completion of a lemma on cycles has one, with at most so many further gaps."""
+    return all(is_cyclic(pairs | set(lemma.above)) for pairs in asked_from(cell, lemma.state, lemma.gaps))

@@ -56,9 +56,20 @@ def of_pairs(draw, most):
     return lines
 
 
-def spice(draw, most=8):
+def of_crossed(draw, most):
+    """A P and an N transistor on each gate net, each between two of few nets: in about half of the cells no row is wired."""
+    ends, lines = ["m", "k", "y", "t", "z"][:draw.randint(3, 5)], []
+    for on in INPUTS[:draw.choice((3, 3, 4))]:
+        for row in draw.choice(("pn",) * 9 + ("p", "n", "pnn")):
+            first, second = draw.sample(ends, 2)
+            rail = "vdd" if row == "p" else "gnd"
+            lines.append((row, first, on, rail if draw.random() < 0.1 else second))
+    return lines[:most]
+
+
+def spice(draw, most=8, makers=(of_gates, of_gates, of_nets, of_pairs)):
     """The text of a cell `x` with at most that many transistors."""
-    lines = draw.choice((of_gates, of_gates, of_nets, of_pairs))(draw, most)
+    lines = draw.choice(makers)(draw, most)
     nets = sorted({net for line in lines for net in line[1:]} - {"vdd", "gnd"})
     pins = [net for net in nets if net in "abcdy" or draw.random() < 0.1]
     if draw.random() < 0.08:

@@ -4,6 +4,7 @@ and slow, and shares no code with the program.
 A row is built column by column. Its state after some columns is how many fingers of each kind are left, and the net
 at the open end of each row. A net is open there if it has a place before the last node line and one at it or later.
 """
+import functools
 import itertools
 from collections import Counter, namedtuple
 
@@ -95,6 +96,7 @@ class Cell:
         """The open ends are ends of fingers that were used."""
         return all(count <= self.all[net] for net, count in self.touched(state).items())
 
+    @functools.lru_cache(maxsize=None)
     def bound(self, state):
         """Gaps that one of the rows needs by itself: its trails, less the places that stay empty in it."""
         p_left, n_left = self.left_on(state)
