@@ -4,7 +4,8 @@
     python3 docs/lowest.py [PROGRAM [WORD ..]]
 
 PROGRAM, ./cellgen where none is given, plans the first row; WORDs come before those of each call. The lowest row and its
-tracks are those of benchmarks/tracks/lowest, the lemmas those of docs/figures/oai21.ctrack. Python 3.8, nothing else.
+tracks are those of benchmarks/tracks/lowest, the lemmas those of docs/figures/oai21.ctrack and docs/figures/tgmux.ctrack.
+Python 3.8, nothing else.
 """
 import importlib.machinery
 import os
@@ -133,11 +134,16 @@ def draw_box(pic, x, y, words, colour, fill):
         pic.text(x, y + 17 + 20 * at, text, 12, bold=at == 0)
 
 
+def lemmas_of(name):
+    """The lines of the lemmas of a certificate."""
+    with open(os.path.join(FIGURES, name), encoding="ascii") as file:
+        return file.read().split("\n")[4:-2]
+
+
 def draw_refuted():
     """The certificate of the OAI21 as a tree: which first columns go on, and why each stops."""
-    with open(os.path.join(FIGURES, "oai21.ctrack"), encoding="ascii") as file:
-        lines = file.read().split("\n")
-    assert [line.split()[0] for line in lines[4:8]] == ["lemma"] * 4, "the certificate has another number of lemmas"
+    words = [line.split()[0] for line in lemmas_of("oai21.ctrack")]
+    assert words == ["lemma"] * 4, "the certificate has another number of lemmas"
     pic = Picture(860, 290, "The certificate of tracks of the OAI21 as a tree")
     draw_box(pic, 430, 10, ["line 8: all rows", "gates left: a b c, no gap, 2 tracks", "9 first columns end at once"],
              TEAL, "#e0f2f1")
@@ -152,8 +158,55 @@ def draw_refuted():
     pic.save("refuted.svg")
 
 
+MUX = (("b", "a"), ("y", "y"), ("a", "b")), ("s", "sn")        # a row of tgmux: its nets line by line, and its gates
+
+
+def draw_two_orders(pic, top, bottom):
+    """The row of tgmux, with the trunks of a and b in one of their two orders, and the line where it is wrong."""
+    nodes, gates = MUX
+    heights = {"b": top + 70, "a": top + 115}
+    for at, gate in enumerate(gates):
+        for edge in (top, bottom):
+            pic.rect(x_of(4 * at) - 16, edge, x_of(4 * at + 4) + 16, edge + 26, ACTIVE)
+        pic.rect(x_of(4 * at + 2) - 4, top - 6, x_of(4 * at + 2) + 4, bottom + 32, COLOURS[POLY])
+        pic.text(x_of(4 * at + 2), top - 16, gate, 13, colour=COLOURS[POLY])
+    for net, y in heights.items():
+        pic.rect(x_of(0) - 9, y - 9, x_of(8) + 9, y + 9, COLOURS[METAL1])
+        pic.text(x_of(4), y, net, 12, colour="#ffffff", bold=True)
+    for at, (p, n) in enumerate(nodes):
+        for net, edge, end in ((p, top, top + 26), (n, bottom, bottom)):
+            pic.text(x_of(4 * at), edge + 13, net, 13)
+            if net in heights:
+                pic.line(x_of(4 * at), end, x_of(4 * at), heights[net], ORANGE if at else TEAL, 5)
+        pic.text(x_of(4 * at), bottom + 52, str(2 * at), 12)
+    pic.text(x_of(0) - 24, bottom + 52, "line", 12, "end")
+    pic.text(x_of(0), bottom + 76, "b above a", 13, colour=TEAL, bold=True)
+    pic.text(x_of(8), bottom + 76, "a above b", 13, colour=ORANGE, bold=True)
+
+
+def draw_cyclic():
+    """A row of tgmux whose trunks have no order, and its certificate as a tree."""
+    asked = [line.split()[-1] for line in lemmas_of("tgmux.ctrack")]
+    assert asked == ["1>0", "1>0", "0>1", "0>1", "-"], "the certificate has other lemmas"
+    pic = Picture(1050, 330, "A row of tgmux, whose trunks have no order, and its certificate by lemmas on cycles")
+    draw_two_orders(pic, 50, 220)
+    draw_box(pic, 780, 10, ["line 9: all rows", "asks for nothing", "6 first columns need a gap"], TEAL, "#e0f2f1")
+    for x, gate, other, asks, closes in ((645, "s", "sn", "b above a", "a above b"), (915, "sn", "s", "a above b", "b above a")):
+        number = 6 if gate == "s" else 8
+        pic.line(780, 84, x, 128, ORANGE)
+        pic.head(x, 130, 0, 1, ORANGE, 8)
+        side = -1 if x < 780 else 1
+        pic.text(780 + side * 112, 102, f"{gate}: {asks}", 12, "end" if side < 0 else "start")
+        draw_box(pic, x, 132, [f"line {number}: {gate} is placed", f"asks for {asks}", f"{other} has to be next"], ORANGE, "#fff3e0")
+        pic.line(x, 206, x, 242, ORANGE)
+        pic.head(x, 244, 0, 1, ORANGE, 8)
+        draw_box(pic, x, 246, [f"line {number - 1}: all is placed", f"asks for {asks}", f"last line: {closes}"], ORANGE, "#fff3e0")
+    pic.save("cyclic.svg")
+
+
 if __name__ == "__main__":
     if {"-h", "--help"} & set(sys.argv[1:]):
         sys.exit(print(__doc__))
     draw_crossings()
     draw_refuted()
+    draw_cyclic()
