@@ -1,38 +1,13 @@
 -- Fingers have one first least arrangement at most.
-use Rattle.std.specs.Prelude.{ℕ, ◌≡◌, ◌⊎◌, true, List, [], ◌∷◌}
-use Rattle.std.specs.Cmp.Lexicographic.{slice_cmp}
-use Rattle.std.specs.declared.cmp.Ordering.TheVariants.{Less, Equal, Greater}
-use Rattle.std.specs.Ordering.{is_lt, nat_cmp, ordering_reverse}
-use Rattle.std.proofs.Common.{Ordering, sym, subst, arith, inl, inr}
-use Rattle.std.proofs.lemmas.Cmp.{nat_list_cmp_total}
+use Rattle.std.specs.Prelude.{◌≡◌, List}
+use Rattle.std.proofs.Common.{sym, arith}
 use Rattle.cell_num.specs.declared.finger.Fingers.{Fingers}
 use Rattle.row_model.specs.declared.column.Column.{Column}
 use Rattle.row_model.specs.Gaps.{gaps_of}
-use Rattle.row_state.specs.Order.{ColumnBefore, KeyBefore, RowBefore, column_key}
 use Rattle.row_search.specs.First.{IsFirstLeast}
-
-not_both : (o : Ordering) → is_lt (ordering_reverse o) ≡ true → is_lt o ≡ true → ⊥
-not_both Less first second = cc
-not_both Equal first second = cc
-not_both Greater first second = cc
-
-key_one_way : (a b : List ℕ) → KeyBefore a b → KeyBefore b a → ⊥
-key_one_way a b first second = not_both (slice_cmp nat_cmp b a) (subst (λ (o : Ordering). is_lt o ≡ true) (nat_list_cmp_total.antisymm a b) first) second
-
-row_one_way : (xs ys : List Column) → RowBefore xs ys → RowBefore ys xs → ⊥
-row_one_way [] ys first second = first
-row_one_way (a ∷ xs) [] first second = first
-row_one_way (a ∷ xs) (b ∷ ys) (inl p) (inl q) = key_one_way (column_key a) (column_key b) p q
-row_one_way (a ∷ xs) (b ∷ ys) (inl p) (inr q) = let self : KeyBefore (column_key b) (column_key b) = subst (λ (c : Column). ColumnBefore c b) (sym q.0) p in key_one_way (column_key b) (column_key b) self self
-row_one_way (a ∷ xs) (b ∷ ys) (inr p) (inl q) = let self : KeyBefore (column_key a) (column_key a) = subst (λ (c : Column). ColumnBefore c a) (sym p.0) q in key_one_way (column_key a) (column_key a) self self
-row_one_way (a ∷ xs) (b ∷ ys) (inr p) (inr q) = row_one_way xs ys p.1 q.1
+use Rattle.cell_make.proofs.RowOrder.{one_row}
 
 pub one_first : (f : Fingers) (a b : List Column) → IsFirstLeast f a → IsFirstLeast f b → a ≡ b
 one_first f a b first second =
     let same : gaps_of b ≡ gaps_of a = omega (arith, first.least b second.arranges, second.least a first.arranges) in
-    by_order (first.first b second.arranges same) (second.first a first.arranges (sym same))
-  where
-    by_order : (a ≡ b) ⊎ RowBefore a b → (b ≡ a) ⊎ RowBefore b a → a ≡ b
-    by_order (inl e) q = e
-    by_order (inr p) (inl e) = sym e
-    by_order (inr p) (inr q) = absurd (row_one_way a b p q)
+    one_row a b (first.first b second.arranges same) (second.first a first.arranges (sym same))

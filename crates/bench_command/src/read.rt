@@ -5,7 +5,7 @@ use crate::cell_name;
 use cell_inputs::Inputs;
 use cell_num::{MOST_BYTES, NoMemory};
 use finger_fold::{FoldFault, fold};
-use spice_net::{SpiceFault, Subckt, read_cell};
+use spice_net::{SpiceFault, read_cell};
 use std::alloc::Global;
 use tech_file::Tech;
 

@@ -6,7 +6,7 @@ use std::alloc::AllocError;
 use thiserror::Error;
 
 /// The shapes and the labels of a cell, and its width and height in grid units.
-#[derive(Debug, PartialEq, Drop)]
+#[derive(Clone, Debug, PartialEq, Drop)]
 pub struct Drawing {
     pub shapes: Shapes,
     pub width: u32,

@@ -43,7 +43,7 @@ fn scaled(number: u64, power: u32) -> u128
 }
 
 // The nearest number of units, or None for lengths of a metre and more.
-#[tactic(auto, using(crate::proofs::Nearest::nearest_is, crate::proofs::Nearest::nearest_of_zero, crate::proofs::Nearest::nearest_of_small, crate::proofs::Nearest::nearest_of_large, crate::proofs::Nearest::parts_within, crate::proofs::Nearest::unit_within, crate::proofs::Nearest::unit_there))]
+#[tactic(auto, using(crate::proofs::Rules::nearest_rules))]
 fn nearest(value: &Fixed, unit_pm: u64) -> Option<u128>
     requires some { 0 < unit_pm }
     requires small { unit_pm ≤ 1000000 }
@@ -65,7 +65,7 @@ fn nearest(value: &Fixed, unit_pm: u64) -> Option<u128>
 
 /// The number of units of `unit_pm` picometres nearest to a length, ties upward; None exactly where
 /// that is above [`MOST_UNITS`].
-#[tactic(auto, using(crate::proofs::Nearest::far, crate::proofs::Nearest::not_far, crate::proofs::Nearest::is_told, crate::proofs::Nearest::is_beyond, crate::proofs::Nearest::is_above))]
+#[tactic(auto, using(crate::proofs::Rules::snap_rules))]
 pub fn snap(value: &Fixed, unit_pm: u64) -> Option<u32>
     requires some { 0 < unit_pm }
     requires small { unit_pm ≤ 1000000 }

@@ -1,5 +1,5 @@
 ghost use Rattle.std.specs.Prelude.{◌≡◌, ◌++◌, [], codes, OnOk};
-ghost use Rattle.cell_report.specs.Faults.{fault_line, fault_of, with_two};
+ghost use Rattle.cell_report.specs.Faults.{fault_line, with_two};
 ghost use Rattle.cell_report.specs.LayoutFaults.{with_one, gds_fault, rule_fault, extract_fault};
 
 use crate::fault_line::{Field, put_fault};

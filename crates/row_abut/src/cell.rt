@@ -1,4 +1,4 @@
-ghost use Rattle.std.specs.Prelude.{◌≡◌, IfOk};
+ghost use Rattle.std.specs.Prelude.{◌≡◌};
 ghost use Rattle.cell_draw.specs.Named.{name_of};
 
 use cell_draw::{Drawing, Edges};
@@ -6,7 +6,7 @@ use cell_num::{List, Name, Names, NetNo, NoMemory, Pins};
 use thiserror::Error;
 
 /// A cell of a row: its drawing, the names of its nets, and the channel edges of its rows in grid units.
-#[derive(Debug, PartialEq, Drop)]
+#[derive(Clone, Debug, PartialEq, Drop)]
 pub struct RowCell {
     pub name: Name,
     pub nets: Names,
@@ -27,23 +27,6 @@ impl RowCell {
             Some(name) => name.as_slice(),
             None => &[],
         }
-    }
-
-    /// A copy, as [`Drawing`] has no `Clone`.
-    pub fn copy(&self) -> Result<RowCell, NoMemory>
-        ensures { IfOk result (λ cell. cell ≡ self.now) }
-    {
-        Ok(RowCell {
-            name: self.name.clone()?,
-            nets: self.nets.clone()?,
-            pins: self.pins,
-            drawing: Drawing {
-                shapes: self.drawing.shapes.clone()?,
-                width: self.drawing.width,
-                height: self.drawing.height,
-            },
-            edges: self.edges,
-        })
     }
 }
 

@@ -11,10 +11,9 @@ use std::alloc::{AllocError, Global};
 fn gate(column: &Column) -> NetNo
     ensures { result ≡ gate_of column.now }
 {
-    match (&column.p, &column.n) {
-        (Some(p), _) => p.finger.gate,
-        (None, Some(n)) => n.finger.gate,
-        (None, None) => NetNo(0),
+    match column.gate() {
+        Some(net) => net,
+        None => NetNo(0),
     }
 }
 

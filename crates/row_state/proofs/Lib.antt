@@ -22,3 +22,4 @@ pub mod SameKinds
 pub mod Sides
 pub mod Unfold
 pub mod Valid
+pub mod Rules

@@ -46,7 +46,7 @@ fn digit(kinds: &[Kind], side: &Option<Side>) -> u64
     }
 }
 
-#[tactic(auto, using(crate::proofs::Codes::lists_few_p, crate::proofs::Codes::lists_few_n, crate::proofs::Digits::first_within, crate::proofs::Digits::rows_fit))]
+#[tactic(auto, using(crate::proofs::Rules::rows_rules))]
 fn rows(step: &Step, kinds: &Kinds) -> u64
     requires step { IsPossible kinds.now (start_of kinds.now) step.now }
     ensures { result ≡ rows_of_step kinds.now step.now }
@@ -83,10 +83,9 @@ fn first_on(kinds: &[Kind], gate: u32) -> usize
 pub(crate) fn gate(column: &Column) -> u32
     ensures { result ≡ gate_key column.now.p column.now.n }
 {
-    match (&column.p, &column.n) {
-        (Some(p), _) => p.finger.gate.0,
-        (None, Some(n)) => n.finger.gate.0,
-        (None, None) => 0,
+    match column.gate() {
+        Some(net) => net.0,
+        None => 0,
     }
 }
 

@@ -12,7 +12,7 @@ use crate::{Kind, Kinds, State};
 use cell_num::{MOST_NETS, NetNo, Row};
 
 // How many lists of counts the kinds allow.
-#[tactic(auto, using(crate::proofs::Codes::lists_next, crate::proofs::Codes::lists_drop, crate::proofs::Codes::lists_some))]
+#[tactic(auto, using(crate::proofs::Rules::lists_rules))]
 pub(crate) fn lists(kinds: &[Kind]) -> u64
     requires few { count_lists kinds.now ≤ 4294967296 }
     ensures value { result ≡ count_lists kinds.now }
@@ -51,7 +51,7 @@ pub(crate) fn end_number(end: &Option<NetNo>) -> u128
 }
 
 // The counts of both rows as one number.
-#[tactic(auto, using(crate::proofs::Codes::lists_few_p, crate::proofs::Codes::lists_few_n, crate::proofs::Codes::rows_few))]
+#[tactic(auto, using(crate::proofs::Rules::rows_number_rules))]
 pub(crate) fn rows_number(state: &State, kinds: &Kinds) -> u64
     requires state { IsState kinds.now state.now }
     ensures { result ≡ rows_code kinds.now state.now }
@@ -168,7 +168,7 @@ fn put_state(code: u128, kinds: &Kinds, into: &mut State)
 }
 
 /// The state that has the number, in the place of one with as many kinds.
-#[tactic(auto, using(crate::proofs::Decoding::code_few, crate::proofs::Decoding::code_valid, crate::proofs::Decoding::code_again))]
+#[tactic(auto, using(crate::proofs::Rules::decode_rules))]
 pub fn decode(code: u128, kinds: &Kinds, into: &mut State)
     requires code { IsCode kinds.now code }
     requires p_room { length into.old.p_left ≡ length kinds.now.p }

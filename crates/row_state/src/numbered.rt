@@ -125,7 +125,7 @@ impl Numbered {
     }
 
     /// The number of the state after a column that may come next.
-    #[tactic(auto, using(crate::proofs::Digits::code_from, crate::proofs::Digits::code_fits, crate::proofs::Digits::nets_few, crate::proofs::Digits::ends_few))]
+    #[tactic(auto, using(crate::proofs::Rules::code_behind_rules))]
     pub fn code_behind(&self, kinds: &Kinds, next: &Candidate) -> u128
         requires numbered { IsNumbered kinds.now self.now }
         requires next { IsCandidate kinds.now next.now }

@@ -99,7 +99,7 @@ fn empty_on(row: Row, on: &OnGate) -> u32
 }
 
 /// How many places of the row stay empty in every completion of a state.
-#[tactic(auto, using(crate::proofs::Level::level_empty, crate::proofs::ParityCode::empty_few, crate::proofs::Valid::p_fits, crate::proofs::Valid::n_fits))]
+#[tactic(auto, using(crate::proofs::Rules::count_empty_rules))]
 pub fn count_empty(row: Row, state: &State, kinds: &Kinds) -> u32
     requires state { IsState kinds.now state.now }
     ensures { result ≡ empty_in row state.now kinds.now }

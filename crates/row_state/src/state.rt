@@ -27,6 +27,15 @@ pub struct State {
     pub n_end: Option<NetNo>,
 }
 
+impl State {
+    /// The same state again.
+    pub fn copied(&self) -> Result<State, NoMemory>
+        ensures { IfOk result (λ copy. copy ≡ self.now) }
+    {
+        Ok(self.clone()?)
+    }
+}
+
 fn counts(alloc: Global, kinds: &[Kind]) -> Result<Vec<u32>, AllocError>
     ensures { IfOk result (λ counts. counts.items ≡ counts_of kinds.now) }
 {

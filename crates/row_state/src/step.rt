@@ -123,7 +123,7 @@ fn stepped(alloc: Global, state: &State, step: &Step, kinds: &Kinds) -> Result<S
 }
 
 /// The state after a next column. A row whose place it leaves empty has no open end then.
-#[tactic(auto, using(crate::proofs::Calls::valid_after, crate::proofs::Calls::fewer_after, crate::proofs::Calls::completes_after))]
+#[tactic(auto, using(crate::proofs::Rules::after_rules))]
 pub fn after(alloc: Global, state: &State, step: &Step, kinds: &Kinds) -> Result<State, NoMemory>
     requires state { IsState kinds.now state.now }
     requires step { IsPossible kinds.now state.now step.now }

@@ -2,7 +2,7 @@ ghost use Rattle.std.specs.Prelude.{◌≡◌, ◌≤◌, ◌/◌, [], IfOk, Ok}
 
 use crate::words::{copies, copy};
 use cell_num::{Name, Names, NoMemory};
-use std::alloc::Global;
+use std::alloc::{AllocError, Global};
 use std::marker::Model;
 
 /// A technology. Contracts see it as the record of its fields, which keep the limits that are said
@@ -57,6 +57,25 @@ impl Model for Tech {
       budget = t.budget;
       height = t.height;
     }) };
+}
+
+impl Clone for Tech {
+    ghost is_clone = { λ tech copy. copy ≡ tech };
+
+    fn clone(&self) -> Result<Tech, AllocError> {
+        self.show_limits();
+        Ok(Tech {
+            lambda_nm: self.lambda_nm,
+            wmax_p: self.wmax_p,
+            wmax_n: self.wmax_n,
+            vdd: self.vdd.clone()?,
+            gnd: self.gnd.clone()?,
+            p_models: self.p_models.clone()?,
+            n_models: self.n_models.clone()?,
+            budget: self.budget,
+            height: self.height,
+        })
+    }
 }
 
 /// The models of P transistors where a technology file names none.

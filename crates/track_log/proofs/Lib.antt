@@ -4,3 +4,4 @@ pub mod Items
 pub mod Only
 pub mod Whole
 pub mod Words
+pub mod Rules

@@ -10,7 +10,7 @@ use log_lines::{all_parts, is_word};
 use std::alloc::Global;
 
 // One item of each word, where each is one.
-#[tactic(auto, using(trail_log::proofs::Each::no_item, trail_log::proofs::Each::one_item, trail_log::proofs::Each::all_items))]
+#[tactic(auto, using(crate::proofs::Rules::each_of_rules))]
 fn each_of<T: Item>(alloc: Global, nets: u32, words: &[&[u8]]) -> Result<Option<List<T>>, NoMemory>
     requires { nets ≤ MOST_NETS }
     ensures { IfOk result (λ items. items ≡ each_in (T.said nets) (map (λ word. word.now) words.now)) }

@@ -19,7 +19,7 @@ use std::alloc::Global;
 use track_ways::TrackLemmas;
 
 // The lemmas on tracks up to the line `end`, the last, from the line of that number: else the first fault.
-#[tactic(auto, using(crate::proofs::Fronts::lemmas_cut, crate::proofs::Fronts::lemmas_done, crate::proofs::Fronts::lemmas_open, crate::proofs::Fronts::lemmas_wrong, crate::proofs::Fronts::lemmas_more))]
+#[tactic(auto, using(crate::proofs::Rules::read_lemmas_rules))]
 fn read_lemmas(
     alloc: Global,
     kinds: &Kinds,
@@ -53,7 +53,7 @@ fn read_lemmas(
 }
 
 // The lemmas on cycles, and after them those on tracks.
-#[tactic(auto, using(crate::proofs::Fronts::cycles_cut, crate::proofs::Fronts::cycles_done, crate::proofs::Fronts::cycles_wrong, crate::proofs::Fronts::cycles_more))]
+#[tactic(auto, using(crate::proofs::Rules::read_cycles_rules))]
 fn read_cycles(
     alloc: Global,
     gaps: u32,

@@ -7,3 +7,4 @@ pub mod Joins
 pub mod Only
 pub mod Whole
 pub mod Words
+pub mod Rules

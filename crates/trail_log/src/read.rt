@@ -16,7 +16,7 @@ use row_state::Kinds;
 use std::alloc::Global;
 
 // The lemmas after the order, and after them the row that they certify, or `open`.
-#[tactic(auto, using(crate::proofs::Fronts::lemmas_cut, crate::proofs::Fronts::lemmas_wrong, crate::proofs::Fronts::lemmas_more, crate::proofs::Fronts::lemmas_listed, crate::proofs::Fronts::lemmas_unlisted, crate::proofs::Fronts::lemmas_ended, crate::proofs::Fronts::lemmas_unended))]
+#[tactic(auto, using(crate::proofs::Rules::read_lemmas_rules))]
 fn read_lemmas(
     alloc: Global,
     fill: NetList,
