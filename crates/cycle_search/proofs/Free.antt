@@ -1,33 +1,25 @@
 -- The first completion without a cycle, from that of the state after its first column.
-use Rattle.std.proofs.Common.{ℕ, zero, suc, ◌≡◌, ◌+◌, ◌-◌, ◌<◌, ◌≤◌, ◌⊎◌, ◌++◌, List, [], ◌∷◌, length, get_or, take, map, reverse, inl, inr, refl, sym, ap, subst, arith, All, Any, Contains, ◌∙◌, IsPermutation, append-nil}
-use Rattle.std.proofs.lemmas.Bool.{cases_order}
-use Rattle.std.proofs.lemmas.List.{get_or-map, get_or-take, get_or_default, length-map, length-take, reverse-append}
+use Rattle.std.proofs.Common.{ℕ, ◌≡◌, ◌+◌, ◌-◌, ◌<◌, ◌⊎◌, ◌++◌, List, [], ◌∷◌, length, get_or, take, map, reverse, inl, refl, sym, ap, subst, arith, All, Any, ◌∙◌, append-nil}
+use Rattle.std.proofs.lemmas.List.{reverse-append}
 use Rattle.std.proofs.lemmas.List.Concat.{flat_map-cons}
-use Rattle.std.proofs.lemmas.List.Elements.{All-head, All-nil}
-use Rattle.std.proofs.lemmas.List.Sorted.{IsPermutation-refl}
-use Rattle.cell_num.specs.declared.finger.Finger.{Finger}
+use Rattle.std.proofs.lemmas.List.Elements.{All-head}
 use Rattle.cell_num.specs.declared.finger.Row.{Row}
-use Rattle.cell_num.specs.declared.finger.Row.TheVariants.{P, N}
 use Rattle.cell_num.specs.declared.net.NetNo.{NetNo}
 use Rattle.cell_num.specs.declared.net.Pins.{Pins}
 use Rattle.cell_num.proofs.Lists.{contains_none}
 use Rattle.cell_num.proofs.Pairs.{Some', any_at, some_from_any}
 use Rattle.row_model.specs.declared.column.Column.{Column}
-use Rattle.row_model.specs.Arrangement.{IsColumn}
 use Rattle.row_model.specs.Gaps.{gaps_of}
 use Rattle.row_state.specs.declared.candidate.Candidate.{Candidate}
 use Rattle.row_state.specs.declared.kind.Kinds.{Kinds}
 use Rattle.row_state.specs.declared.state.State.{State}
 use Rattle.row_state.specs.declared.step.Step.{Step}
-use Rattle.row_state.specs.Candidates.{AreCandidates, candidate_steps}
-use Rattle.row_state.specs.Completion.{Completes, cost_of, fingers_left, further_gaps}
-use Rattle.row_state.specs.Gates.{most}
-use Rattle.row_state.specs.Order.{ColumnBefore, RowBefore}
+use Rattle.row_state.specs.Candidates.{AreCandidates}
+use Rattle.row_state.specs.Completion.{Completes, cost_of, further_gaps}
+use Rattle.row_state.specs.Order.{RowBefore}
 use Rattle.row_state.specs.Start.{AreSomeKinds, IsState, start_of}
 use Rattle.row_state.specs.Steps.{IsPossible, column_of, state_after}
 use Rattle.row_state.proofs.Calls.{valid_after}
-use Rattle.row_state.proofs.Digits.{among_candidates}
-use Rattle.row_state.proofs.Fewest.{most_none, most_same}
 use Rattle.row_state.proofs.Unfold.{arrangement_of, completion_of, further_step, gaps_from_start}
 use Rattle.row_state.proofs.Valid.{gates_are_nets}
 use Rattle.track_ways.specs.Rows.{lines_of_row, node_line}
@@ -43,17 +35,15 @@ use Rattle.row_cycles.specs.Steps.{StepIsRefuted}
 use Rattle.row_cycles.specs.Unwired.{IsTrueOf}
 use Rattle.cycle_search.specs.Visit.{EndsFree, IsAhead, IsFirstFree, IsFree, lemma_at}
 use Rattle.row_cycles.proofs.After.{beside_first}
+use Rattle.row_cycles.proofs.Completions.{complete_end, first_among, gaps_left, only_end}
 use Rattle.row_cycles.proofs.Lemmas.{refuted}
 use Rattle.cycle_search.proofs.Visited.{StepFails}
-
-within_after : (cost left gaps further rest : ℕ) → cost + left ≡ gaps → further ≡ cost + rest → further ≤ gaps → rest ≤ left
-within_after cost left gaps further rest e f le = omega (arith, e, f, le)
 
 -- a completion through the column is one after it
 free_after : (pins : Pins) (k : Kinds) (s : State) (above : List NetAbove) (gaps left : ℕ) (step : Step) (steps : List Step) → cost_of s (column_of k step) + left ≡ gaps → IsFree pins k s above gaps (step ∷ steps) → IsFree pins k (state_after k s step) (above ++ above_step pins k s step) left steps
 free_after pins k s above gaps left step steps sum h = record {
   leads = h.leads.1;
-  within = within_after (cost_of s (column_of k step)) left gaps _ _ sum (further_step k s step (map (column_of k) steps)) h.within;
+  within = gaps_left k s step (map (column_of k) steps) left gaps sum h.within;
   free = λ cycle. h.free (subst HasCycle (beside_first pins k s step (map (column_of k) steps) above) cycle);
 }
 
@@ -74,42 +64,6 @@ free_fails value pins k lemmas s above gaps step steps some law all state fails 
     let a : IsFree pins k (state_after k s step) (above ++ above_step pins k s step) left steps = free_after pins k s above gaps left step steps sum h in
     a.free (refuted value pins k lemmas (state_after k s step) left (above ++ above_step pins k s step) (gates_are_nets k some) law all (valid_after k s step some state h.leads.0) (fails left h.leads.0 sum) steps a.leads a.within)
 
--- the order of two rows that begin with next columns, by the places of these
-ordered : (k : Kinds) (steps : List Step) (i j : ℕ) (a b d : Step) (rest cs : List Column) → ((i j : ℕ) (d : Step) → i < j → j < length steps → ColumnBefore (column_of k (get_or steps i d)) (column_of k (get_or steps j d))) → get_or steps i d ≡ a → get_or steps j d ≡ b → j < length steps → (j < i → ⊥) → (a ≡ b → (rest ≡ cs) ⊎ RowBefore rest cs) → (column_of k a ∷ rest ≡ column_of k b ∷ cs) ⊎ RowBefore (column_of k a ∷ rest) (column_of k b ∷ cs)
-ordered k steps i j a b d rest cs order here there within not_before same =
-    elim (cases_order i j) [
-      | inl e ↦
-          let is : a ≡ b = sym here ∙ ap (λ (n : ℕ). get_or steps n d) e ∙ there in
-          elim (same is) [
-            | inl equal ↦ inl (ap (λ (z : Step). column_of k z ∷ rest) is ∙ ap (λ r. column_of k b ∷ r) equal)
-            | inr before ↦ inr (inr (ap (column_of k) is, before))
-          ]
-      | inr other ↦ elim other [
-        | inl less ↦ inr (inl (subst (λ z. ColumnBefore z (column_of k b)) (ap (column_of k) here) (subst (λ z. ColumnBefore (column_of k (get_or steps i d)) z) (ap (column_of k) there) (order i j d less within))))
-        | inr more ↦ absurd (not_before more)
-      ]
-    ]
-
-no_rows : (k : Kinds) (s : State) (c : Column) (cs : List Column) → Completes k s [] → Completes k s (c ∷ cs) → ⊥
-no_rows k s c cs none some = omega (arith, none.fewest, some.fewest)
-
-first_with : (value : Row → State → Kinds → ℕ) (pins : Pins) (k : Kinds) (lemmas : List CycleLemma) (s : State) (above : List NetAbove) (gaps left : ℕ) (items : List Candidate) (i : ℕ) (d : Candidate) (rest : List Step) → AreSomeKinds k → Holds value k → All (IsTrueOf pins k) lemmas → IsState k s → AreCandidates k items → i < length items → All (StepFails value pins k lemmas s gaps above) (take i items) → cost_of s (column_of k (get_or items i d).step) + left ≡ gaps → IsFirstFree pins k (state_after k s (get_or items i d).step) (above ++ above_step pins k s (get_or items i d).step) left rest → Completes k s (column_of k (get_or items i d).step ∷ map (column_of k) rest) → (other : List Step) → IsFree pins k s above gaps other → (column_of k (get_or items i d).step ∷ map (column_of k) rest ≡ map (column_of k) other) ⊎ RowBefore (column_of k (get_or items i d).step ∷ map (column_of k) rest) (map (column_of k) other)
-first_with value pins k lemmas s above gaps left items i d rest some law all state are within fails sum h whole [] free = absurd (no_rows k s _ _ free.leads whole)
-first_with value pins k lemmas s above gaps left items i d rest some law all state are within fails sum h whole (z ∷ zs) free =
-    let steps : List Step = candidate_steps items in
-    let there : Contains steps z = among_candidates k items s z are state free.leads.0 in
-    let j : ℕ = there.0 in
-    let inside : j < length items = omega (arith, there.1, length-map items (λ (c : Candidate). c.step)) in
-    let here : get_or steps i d.step ≡ (get_or items i d).step = get_or-map (λ (c : Candidate). c.step) items i d d.step within in
-    let is_z : get_or steps j d.step ≡ z = get_or_default steps j d.step z there.1 ∙ there.2 in
-    let item : (get_or items j d).step ≡ z = sym (get_or-map (λ (c : Candidate). c.step) items j d d.step inside) ∙ is_z in
-    ordered k steps i j (get_or items i d).step z d.step (map (column_of k) rest) (map (column_of k) zs) are.steps.order here is_z there.1
-    (λ less.
-    let shorter : j < length (take i items) = omega (arith, length-take i items, less, within) in
-    let bad : StepFails value pins k lemmas s gaps above (get_or items j d) = subst (StepFails value pins k lemmas s gaps above) (get_or-take i items j d less) (fails j d shorter) in
-    free_fails value pins k lemmas s above gaps z zs some law all state (subst (λ (y : Step). StepIsRefuted value pins k lemmas (lemma_at s gaps above) y) item bad) free)
-    (λ same. h.first zs (free_after pins k s above gaps left (get_or items i d).step zs sum (subst (λ (y : Step). IsFree pins k s above gaps (y ∷ zs)) (sym same) free)))
-
 -- the first completion after the first column that does not fail is the first of the state
 pub first_through : (value : Row → State → Kinds → ℕ) (pins : Pins) (k : Kinds) (lemmas : List CycleLemma) (s : State) (above : List NetAbove) (gaps : ℕ) (ahead : Ahead) (items : List Candidate) (i : ℕ) (d : Candidate) (rest pushed : List Step) → AreSomeKinds k → Holds value k → All (IsTrueOf pins k) lemmas → IsState k s → AreCandidates k items → i < length items → All (StepFails value pins k lemmas s gaps above) (take i items) → IsAhead pins k s above gaps (get_or items i d).step ahead → IsFirstFree pins k ahead.state.state ahead.above ahead.left (reverse rest) → pushed ≡ rest ++ (get_or items i d).step ∷ [] → IsFirstFree pins k s above gaps (reverse pushed)
 first_through value pins k lemmas s above gaps ahead items i d rest pushed some law all state are within fails a h is =
@@ -120,20 +74,15 @@ first_through value pins k lemmas s above gaps ahead items i d rest pushed some 
     subst (IsFirstFree pins k s above gaps) (sym (ap reverse is ∙ reverse-append rest (step ∷ [])))
     (record {
       is = free;
-      first = first_with value pins k lemmas s above gaps ahead.left items i d (reverse rest) some law all state are within fails a.left h' (completes k s (step ∷ reverse rest) (gates_are_nets k some) free.leads);
+      first = λ other also.
+          first_among k s items i d (map (column_of k) (reverse rest)) other (StepFails value pins k lemmas s gaps above)
+          state are within (completes k s (step ∷ reverse rest) (gates_are_nets k some) free.leads) fails
+          (λ next zs bad is. free_fails value pins k lemmas s above gaps next.step zs some law all state bad
+          (subst (IsFree pins k s above gaps) is also))
+          (λ zs is. h'.first zs (free_after pins k s above gaps ahead.left step zs a.left
+          (subst (IsFree pins k s above gaps) is also)))
+          also.leads;
     })
-
-nil_of : {X : Type 0} (xs : List X) → length xs ≡ 0 → xs ≡ []
-nil_of [] e = refl
-nil_of (x ∷ xs) e = absurd (omega (arith, e))
-
-nil_perm : (xs : List Finger) → length xs ≡ 0 → IsPermutation xs []
-nil_perm xs e = subst (λ ys. IsPermutation xs ys) (nil_of xs e) (IsPermutation-refl xs)
-
-none_of_both : (a b : ℕ) → (0 < a + b → ⊥) → (a ≡ 0) × (b ≡ 0)
-none_of_both zero zero none = (refl, refl)
-none_of_both (suc a) b none = absurd (none (omega arith))
-none_of_both zero (suc b) none = absurd (none (omega arith))
 
 last_is : (pins : Pins) (s : State) → above_of pins (node_line s.p_end s.n_end ∷ []) ≡ above_end pins s
 last_is pins s = flat_map-cons (above_at pins) (node_line s.p_end s.n_end) [] ∙ append-nil (above_end pins s)
@@ -141,16 +90,15 @@ last_is pins s = flat_map-cons (above_at pins) (node_line s.p_end s.n_end) [] �
 -- with no finger left the empty list is the first
 pub first_at_end : (pins : Pins) (k : Kinds) (s : State) (above : List NetAbove) (gaps : ℕ) (steps : List Step) → AreSomeKinds k → EndsFree pins k s above → steps ≡ [] → IsFirstFree pins k s above gaps (reverse steps)
 first_at_end pins k s above gaps steps some ends is =
-    let none : (length (fingers_left P k.p s.p_left) ≡ 0) × (length (fingers_left N k.n s.n_left) ≡ 0) = none_of_both (length (fingers_left P k.p s.p_left)) (length (fingers_left N k.n s.n_left)) ends.none in
-    let no_columns : most (fingers_left P k.p s.p_left) (fingers_left N k.n s.n_left) k.nets ≡ 0 = most_same _ _ _ _ k.nets (nil_perm (fingers_left P k.p s.p_left) none.0) (nil_perm (fingers_left N k.n s.n_left) none.1) ∙ most_none k.nets in
+    let whole : Completes k s [] = complete_end k s ends.none in
     subst (λ zs. IsFirstFree pins k s above gaps (reverse zs)) (sym is)
     (record {
       is = record {
-        leads = record { columns = All-nil IsColumn; p = nil_perm (fingers_left P k.p s.p_left) none.0; n = nil_perm (fingers_left N k.n s.n_left) none.1; fewest = sym no_columns };
+        leads = whole;
         within = omega arith;
         free = λ cycle. ends.free (subst (λ ps. HasCycle (above ++ ps)) (last_is pins s) cycle);
       };
-      first = λ other free. inl (sym (nil_of (map (column_of k) other) ((completes k s other (gates_are_nets k some) free.leads).fewest ∙ no_columns)));
+      first = λ other free. inl (sym (only_end k s (map (column_of k) other) whole (completes k s other (gates_are_nets k some) free.leads)));
     })
 
 -- ---- from the start

@@ -1,9 +1,7 @@
 -- What a visit shows of its lemmas.
 use Rattle.std.proofs.Common.{ℕ, Option, Some, None, IfSome, ◌≡◌, ◌+◌, ◌-◌, ◌≤◌, ◌++◌, List, [], ◌∷◌, length, get_or, take, take_all, inl, inr, refl, sym, ap, subst, arith, All, Any, Contains, ◌∙◌, append_assoc, append-nil}
 use Rattle.std.specs.Prelude.{IfNone}
-use Rattle.std.proofs.lemmas.Bool.{cases_lt}
-use Rattle.std.proofs.Math.Seq.{get_or-append_seam, take-append_seam}
-use Rattle.std.proofs.lemmas.List.{get_or_append_left, get_or_default, length-append, take-append-le}
+use Rattle.std.proofs.lemmas.List.{get_or_default}
 use Rattle.std.proofs.lemmas.List.Elements.{All-append, All-contains, All-nil, All-weaker, Contains-append_right}
 use Rattle.std.proofs.lemmas.List.Quantifiers.{all_pairs_push}
 use Rattle.cell_num.specs.declared.finger.Row.{Row}
@@ -25,14 +23,15 @@ use Rattle.cycle_search.specs.declared.progress.Progress.{Progress}
 use Rattle.cycle_search.specs.declared.search.WiredRow.{WiredRow}
 use Rattle.cycle_search.specs.declared.search.WiredRow.TheVariants as ended
 use Rattle.row_cycles.specs.Above.{Follows, HasCycle, HasNets, above_end, above_step}
-use Rattle.row_cycles.specs.Certificate.{AreJustified, Covers, IsJustified, IsRefuted}
+use Rattle.row_cycles.specs.Certificate.{Covers, IsJustified, IsRefuted}
 use Rattle.row_cycles.specs.Fits.{CycleFits, IsWithin}
 use Rattle.row_cycles.specs.Noted.{AreNoted}
 use Rattle.cycle_search.specs.Search.{AreKept, HasReason, lemmas_in}
-use Rattle.row_cycles.specs.Steps.{StepIsRefuted}
+use Rattle.row_cycles.specs.Steps.{LeftIsRefuted, StepIsRefuted}
 use Rattle.cycle_search.specs.Visit.{AreSame, IsAhead, IsGrown, IsKept, IsOpen, lemma_at}
 use Rattle.row_cycles.proofs.Nets.{few_nets}
-use Rattle.row_cycles.proofs.Refuted.{steps_all}
+use Rattle.row_cycles.proofs.Certified.{each_push}
+use Rattle.row_cycles.proofs.Left.{each_left, same_left}
 use Rattle.row_cycles.proofs.Paths.{cycle_beside, cycle_through, follows_beside, follows_through, one_above}
 
 -- the column leaves the lemma of these pairs justified
@@ -49,9 +48,6 @@ steps_fail_more value pins k xs ys more s allowed above items is all =
     All-weaker (StepFails value pins k xs s allowed above) (StepFails value pins k ys s allowed above) (λ c h left possible sum.
     refuted_more value k xs ys more (state_after k s c.step) left (above ++ above_step pins k s c.step) is (h left possible sum)) items all
 
-same_left : (cost left other gaps : ℕ) → cost + left ≡ gaps → cost + other ≡ gaps → left ≡ other
-same_left cost left other gaps e f = omega (arith, e, f)
-
 -- the visit of the state after the column has kept a lemma on it
 pub ahead_fails : (value : Row → State → Kinds → ℕ) (pins : Pins) (k : Kinds) (lemmas : List CycleLemma) (s : State) (allowed : ℕ) (above : List NetAbove) (step : Step) (ahead : Ahead) → IsAhead pins k s above allowed step ahead → Any (Covers ahead.state.state ahead.left ahead.above) lemmas → StepIsRefuted value pins k lemmas (lemma_at s allowed above) step
 ahead_fails value pins k lemmas s allowed above step ahead a any left possible sum =
@@ -67,7 +63,7 @@ all_justified value pins k lemmas s allowed above all i are state nets past fail
       state = state;
       nets = nets;
       holds = inr (record {
-        steps = λ step left possible sum. steps_all value pins k lemmas (lemma_at s allowed above) all state are each step left possible sum;
+        steps = λ step left possible sum. each_left k s allowed all (LeftIsRefuted value pins k lemmas (lemma_at s allowed above)) state are each step left possible sum;
         ends = ends;
       });
     }
@@ -146,26 +142,13 @@ ahead_some pins k s above allowed cost step (Some ahead) possible is low h = rec
 
 -- ---- one lemma more
 
-justified_push : (value : Row → State → Kinds → ℕ) (pins : Pins) (k : Kinds) (xs : List CycleLemma) (x : CycleLemma) → AreJustified value pins k xs → IsJustified value pins k xs x → AreJustified value pins k (xs ++ x ∷ [])
-justified_push value pins k xs x all here i d within =
-    elim (cases_lt i (length xs)) [
-      | inl less ↦
-          let e : take i (xs ++ x ∷ []) ≡ take i xs = take-append-le i xs (x ∷ []) (omega arith) in
-          let f : get_or (xs ++ x ∷ []) i d ≡ get_or xs i d = get_or_append_left xs (x ∷ []) d i less in
-          subst (λ y. IsJustified value pins k (take i (xs ++ x ∷ [])) y) (sym f) (subst (λ ys. IsJustified value pins k ys (get_or xs i d)) (sym e) (all i d less))
-      | inr more ↦
-          let at : length xs ≡ i = omega (arith, length-append xs (x ∷ []), within) in
-          subst (λ n. IsJustified value pins k (take n (xs ++ x ∷ [])) (get_or (xs ++ x ∷ []) n d)) at
-          (subst (λ y. IsJustified value pins k (take (length xs) (xs ++ x ∷ [])) y) (sym (get_or-append_seam xs x [] d)) (subst (λ ys. IsJustified value pins k ys x) (sym (take-append_seam xs (x ∷ []))) here))
-    ]
-
 abbrev pub Differ : CycleLemma → CycleLemma → Type 0
 Differ earlier lemma = Covers lemma.state lemma.gaps lemma.above earlier → ⊥
 
 -- a justified lemma that follows from no earlier one
 pub kept_push : (value : Row → State → Kinds → ℕ) (pins : Pins) (k : Kinds) (gaps : ℕ) (xs ys : List CycleLemma) (x : CycleLemma) (s : State) → ys ≡ xs ++ x ∷ [] → x.state ≡ s → AreKept value pins k gaps xs → IsJustified value pins k xs x → IsWithin k gaps x → (Any (Covers s x.gaps x.above) xs → ⊥) → AreKept value pins k gaps ys
 kept_push value pins k gaps xs ys x s is state kept here within none = subst (AreKept value pins k gaps) (sym is) (record {
-  justified = justified_push value pins k xs x kept.justified here;
+  justified = each_push (IsJustified value pins k) xs x kept.justified here;
   own = all_pairs_push Differ xs x kept.own (λ i d less covers.
       none (subst (λ z. Any (Covers z x.gaps x.above) xs) state (any_at (Covers x.state x.gaps x.above) xs (get_or xs i d) (i, less, get_or_default xs i (get_or xs i d) d less) covers)));
   within = All-append (IsWithin k gaps) xs (x ∷ []) kept.within (all_one (IsWithin k gaps) x within);

@@ -1,8 +1,7 @@
 // The first row without a cycle, or a certificate that there is none.
-ghost use Rattle.std.specs.Prelude.{◌≡◌, ◌≤◌, [], All, IfErr, IfNone, IfOk, IfSome, length, map, reverse};
+ghost use Rattle.std.specs.Prelude.{◌≡◌, ◌≤◌, [], All, IfErr, IfNone, IfOk, IfSome, length};
 ghost use Rattle.row_state.specs.Candidates.{AreCandidates, IsNumbered};
 ghost use Rattle.row_state.specs.Start.{start_of};
-ghost use Rattle.row_state.specs.Steps.{column_of};
 ghost use Rattle.row_cycles.specs.Certificate.{Certifies};
 ghost use Rattle.row_cycles.specs.Fits.{CycleFits};
 ghost use Rattle.row_cycles.specs.Noted.{AreNoted};
@@ -12,11 +11,11 @@ ghost use Rattle.cell_num.specs.declared.halt.Halt.TheVariants.{Spent};
 use crate::ahead::Task;
 use crate::progress::Progress;
 use crate::visit::visit;
-use cell_num::{Halt, List, NoMemory, Pins};
-use row_cycles::{AboveList, CycleLemmas};
-use row_model::{Arrangement, Column};
-use row_state::{Kinds, Numbered, RowBound, Step, candidates, column, start};
-use std::alloc::{AllocError, Global};
+use cell_num::{Halt, NoMemory, Pins};
+use row_cycles::{AboveList, CycleLemmas, numbered_start, row_of};
+use row_model::Arrangement;
+use row_state::{Kinds, Numbered, RowBound, candidates};
+use std::alloc::Global;
 
 /// What the search for a row without a cycle ends with.
 #[derive(Debug, Drop)]
@@ -27,30 +26,6 @@ pub enum WiredRow {
     None { lemmas: CycleLemmas },
     /// There is a lemma more than the budget allows.
     Spent,
-}
-
-fn columns(alloc: Global, steps: &[Step], kinds: &Kinds) -> Result<Vec<Column>, AllocError>
-    ensures { IfOk result (λ columns. columns.items ≡ map (column_of kinds.now) (reverse steps.now)) }
-{
-    steps
-        .iter()
-        .rev()
-        .map(|step| column(step, kinds))
-        .collect(alloc)
-}
-
-// The row of the steps, which were found from the last to the first.
-fn row_of(alloc: Global, steps: &[Step], kinds: &Kinds) -> Result<Arrangement, NoMemory>
-    ensures { IfOk result (λ row. row ≡ map (column_of kinds.now) (reverse steps.now)) }
-{
-    Ok(List::from_vec(columns(alloc, steps, kinds)?))
-}
-
-fn numbered_start(alloc: Global, kinds: &Kinds) -> Result<Numbered, NoMemory>
-    ensures state { IfOk result (λ first. first.state ≡ start_of kinds.now) }
-    ensures numbered { IfOk result (IsNumbered kinds.now) }
-{
-    Ok(Numbered::new(start(alloc, kinds)?, kinds))
 }
 
 // The first row from the start, or none: then the lemmas are a certificate.

@@ -1,4 +1,4 @@
-ghost use Rattle.std.specs.Prelude.{◌≡◌, ◌≤◌, All, Any, IfErr, IfNone, IfOk, IfSome, IsTrue, OnOk, reverse};
+ghost use Rattle.std.specs.Prelude.{◌≡◌, ◌≤◌, All, Any, IfErr, IfNone, IfOk, IfSome, OnOk, reverse};
 ghost use Rattle.row_state.specs.Candidates.{AreCandidates, IsNumbered};
 ghost use Rattle.row_cycles.specs.Above.{Follows, HasCycle, HasNets};
 ghost use Rattle.row_cycles.specs.Certificate.{Covers, IsJustified};
@@ -16,13 +16,7 @@ use cell_num::{Halt, NoMemory};
 use row_cycles::{
     AboveList, CycleGrounds, CycleLemma, NetAbove, NotedCycles, cycles_by_lemmas, is_justified,
 };
-use row_state::{Numbered, RowBound, State, Steps};
-
-fn copied_state(state: &State) -> Result<State, NoMemory>
-    ensures { IfOk result (λ copy. copy ≡ state.now) }
-{
-    Ok(state.clone()?)
-}
+use row_state::{Numbered, RowBound, Steps};
 
 // The lemma on the state that asks for these pairs, in order.
 fn lemma_of<B: RowBound>(
@@ -39,7 +33,7 @@ fn lemma_of<B: RowBound>(
     ensures same { IfOk result (λ lemma. AreSame above.now lemma.above) }
 {
     task.kinds.show_limits();
-    let state = copied_state(&at.state)?;
+    let state = at.state.copied()?;
     let above = in_order(task.alloc, above)?;
     Ok(CycleLemma { state, gaps, above })
 }

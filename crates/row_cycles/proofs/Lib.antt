@@ -1,6 +1,8 @@
 pub mod After
 pub mod Certified
+pub mod Completions
 pub mod Found
+pub mod Left
 pub mod Legal
 pub mod Lemmas
 pub mod Loops

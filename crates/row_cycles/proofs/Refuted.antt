@@ -1,58 +1,25 @@
 -- When next columns leave a lemma justified.
-use Rattle.std.proofs.Common.{ℕ, ◌≡◌, ◌+◌, ◌-◌, ◌<◌, ◌≤◌, ◌↔◌, ◌++◌, Bool, List, [], ◌∷◌, Some, slice_get, length, take, get_or, ap, inl, inr, refl, sym, subst, arith, All, Any, ◌∙◌}
+use Rattle.std.proofs.Common.{ℕ, ◌≡◌, ◌≤◌, ◌↔◌, ◌++◌, Bool, List, [], ◌∷◌, Some, slice_get, length, take, ap, inl, inr, refl, sym, subst, arith, All, Any, ◌∙◌}
 use Rattle.std.specs.Prelude.{IsTrue}
 use Rattle.std.proofs.Math.Seq.{take-append_seam}
 use Rattle.std.proofs.lemmas.List.{length-append}
-use Rattle.std.proofs.lemmas.List.Elements.{All-contains, All-get_or, All-head, All-nil, Contains-append_left}
+use Rattle.std.proofs.lemmas.List.Elements.{All-head, All-nil, Contains-append_left}
 use Rattle.cell_num.specs.declared.finger.Row.{Row}
 use Rattle.cell_num.specs.declared.net.Pins.{Pins}
-use Rattle.cell_num.proofs.Lists.{all_map}
 use Rattle.cell_num.proofs.Pairs.{Some', any_at, some_from_any}
-use Rattle.row_state.specs.declared.candidate.Candidate.{Candidate}
 use Rattle.row_state.specs.declared.kind.Kinds.{Kinds}
 use Rattle.row_state.specs.declared.state.State.{State}
 use Rattle.row_state.specs.declared.step.Step.{Step}
-use Rattle.row_state.specs.Candidates.{AreCandidates, IsCandidate, candidate_steps}
-use Rattle.row_state.specs.Completion.{cost_of}
-use Rattle.row_state.specs.Start.{IsState}
-use Rattle.row_state.specs.Steps.{IsPossible, column_of, state_after}
-use Rattle.row_state.proofs.Digits.{among_candidates}
+use Rattle.row_state.specs.Steps.{state_after}
 use Rattle.track_ways.specs.Certificate.{NeedsMore}
 use Rattle.row_cycles.specs.declared.above.NetAbove.{NetAbove}
 use Rattle.row_cycles.specs.declared.lemma.CycleLemma.{CycleLemma}
 use Rattle.row_cycles.specs.Above.{Follows, HasCycle, above_end, above_step}
 use Rattle.row_cycles.specs.Certificate.{Branches, Covers, CoversAll}
 use Rattle.row_cycles.specs.Noted.{IsPassedBy}
-use Rattle.row_cycles.specs.Steps.{LeftIsRefuted, StepIsRefuted}
+use Rattle.row_cycles.specs.Steps.{LeftIsRefuted}
 use Rattle.row_cycles.proofs.Noted.{covered_at, passed_at}
 use Rattle.row_cycles.proofs.Paths.{cycle_more}
-
-rest_of : (cost left gaps : ℕ) → cost + left ≡ gaps → gaps - cost ≡ left
-rest_of cost left gaps sum = omega (arith, sum)
-
-sum_of : (cost gaps : ℕ) → cost ≤ gaps → cost + (gaps - cost) ≡ gaps
-sum_of cost gaps le = omega (arith, le)
-
--- the gaps that are left after a column are the one number that its cost allows
-pub step_decides : (value : Row → State → Kinds → ℕ) (pins : Pins) (k : Kinds) (earlier : List CycleLemma) (lemma : CycleLemma) (step : Step) (cost : ℕ) (refuted : Bool) → IsPossible k lemma.state step → cost ≡ cost_of lemma.state (column_of k step) → cost ≤ lemma.gaps → IsTrue refuted ↔ LeftIsRefuted value pins k earlier lemma step (lemma.gaps - cost) → IsTrue refuted ↔ StepIsRefuted value pins k earlier lemma step
-step_decides value pins k earlier lemma step cost refuted possible is le decides = (
-  λ yes left _ sum. subst (LeftIsRefuted value pins k earlier lemma step) (rest_of cost left lemma.gaps (subst (λ c. c + left ≡ lemma.gaps) (sym is) sum)) (decides.0 yes),
-  λ fails. decides.1 (fails (lemma.gaps - cost) possible (subst (λ c. c + (lemma.gaps - cost) ≡ lemma.gaps) is (sum_of cost lemma.gaps le))),
-)
-
--- a column that costs more than the gaps
-pub dear_step : (value : Row → State → Kinds → ℕ) (pins : Pins) (k : Kinds) (earlier : List CycleLemma) (lemma : CycleLemma) (step : Step) (cost : ℕ) → cost ≡ cost_of lemma.state (column_of k step) → lemma.gaps < cost → StepIsRefuted value pins k earlier lemma step
-dear_step value pins k earlier lemma step cost is dear left possible sum = absurd (omega (arith, is, dear, sum))
-
--- each possible next column is a candidate
-pub steps_all : (value : Row → State → Kinds → ℕ) (pins : Pins) (k : Kinds) (earlier : List CycleLemma) (lemma : CycleLemma) (all : List Candidate) → IsState k lemma.state → AreCandidates k all → All (λ (c : Candidate). StepIsRefuted value pins k earlier lemma c.step) all → (step : Step) → StepIsRefuted value pins k earlier lemma step
-steps_all value pins k earlier lemma all state are each step left possible sum =
-    All-contains (StepIsRefuted value pins k earlier lemma) (candidate_steps all) step
-    (all_map (λ (c : Candidate). StepIsRefuted value pins k earlier lemma c.step) (StepIsRefuted value pins k earlier lemma) (λ (c : Candidate). c.step) all (λ c h. h) each)
-    (among_candidates k all lemma.state step are state possible) left possible sum
-
-pub candidate_is : (k : Kinds) (all : List Candidate) (i : ℕ) (d : Candidate) → AreCandidates k all → i < length all → IsCandidate k (get_or all i d)
-candidate_is k all i d are within = All-get_or (IsCandidate k) all i d within are.each
 
 -- nothing follows from nothing
 none_below : (a : NetAbove) → Follows [] a → ⊥

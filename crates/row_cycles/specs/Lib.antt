@@ -3,6 +3,7 @@ pub mod Above
 pub mod Certificate
 pub mod Down
 pub mod Fits
+pub mod Next
 pub mod Noted
 pub mod Refusal
 pub mod Steps

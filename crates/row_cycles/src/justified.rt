@@ -1,5 +1,5 @@
 // Whether a lemma is justified by those before it.
-ghost use Rattle.std.specs.Prelude.{◌≡◌, ◌≤◌, ◌↔◌, ◌++◌, All, IfOk, IsTrue};
+ghost use Rattle.std.specs.Prelude.{◌≡◌, ◌↔◌, ◌++◌, All, IfOk, IsTrue};
 ghost use Rattle.row_state.specs.declared.step.Step.{Step as StepOf};
 ghost use Rattle.row_state.specs.Candidates.{AreCandidates, IsCandidate, IsNumbered};
 ghost use Rattle.row_state.specs.Start.{HasFingers, IsState};
@@ -11,10 +11,10 @@ ghost use Rattle.row_cycles.specs.Steps.{LeftIsRefuted, StepIsRefuted};
 
 use crate::{
     AboveList, CycleLemma, NetAbove, NotedCycles, add_end, add_step, has_cycle, has_cycle_from,
-    needs_more,
+    left_after, needs_more,
 };
 use cell_num::{NoMemory, Pins};
-use row_state::{Candidate, Candidates, Kinds, Numbered, RowBound, State, has_fingers, is_state};
+use row_state::{Candidate, Candidates, Kinds, Numbered, RowBound, has_fingers, is_state};
 use std::alloc::Global;
 
 /// What lemmas on cycles may rest on beside earlier ones: the cell, all columns that may ever come next, and the bound
@@ -106,20 +106,15 @@ fn step_is_refuted<B: RowBound>(
     ensures { IfOk result (λ refuted. IsTrue refuted ↔ StepIsRefuted (B.value grounds.now.bound.now)
         grounds.now.pins.now grounds.now.kinds.now earlier.now.lemmas.now lemma.now next.now.step) }
 {
-    if !from.allows(grounds.kinds, next) {
+    let Some(left) = left_after(from, grounds.kinds, next, lemma.gaps) else {
         return Ok(true);
-    }
-    let cost = from.cost(next);
-    if lemma.gaps < cost {
-        return Ok(true);
-    }
-    let left = lemma.gaps - cost;
+    };
     let refuted = left_is_refuted(alloc, grounds, earlier, lemma, from, next, left)?;
     Ok(refuted)
 }
 
 // Whether each next column leaves the lemma justified.
-#[tactic(auto, using(crate::proofs::Refuted::candidate_is))]
+#[tactic(auto, using(crate::proofs::Left::candidate_is))]
 fn steps_are_refuted<B: RowBound>(
     alloc: Global,
     grounds: &CycleGrounds<B>,
@@ -166,12 +161,6 @@ fn end_is_refuted(
     Ok(has_cycle(above.as_slice()))
 }
 
-fn copied(state: &State) -> Result<State, NoMemory>
-    ensures { IfOk result (λ copy. copy ≡ state.now) }
-{
-    Ok(state.clone()?)
-}
-
 // Whether each next column leaves the lemma justified, and the end of a row does.
 fn branches<B: RowBound>(
     alloc: Global,
@@ -193,7 +182,7 @@ fn branches<B: RowBound>(
     if !end_is_refuted(alloc, grounds.kinds, grounds.pins, lemma)? {
         return Ok(false);
     }
-    let state = copied(&lemma.state)?;
+    let state = lemma.state.copied()?;
     let from = Numbered::new(state, grounds.kinds);
     let refuted = steps_are_refuted(alloc, grounds, earlier, lemma, &from)?;
     Ok(refuted)

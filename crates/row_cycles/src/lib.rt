@@ -9,8 +9,10 @@ pub mod known;
 pub mod laws;
 mod lemma;
 pub mod lines;
+pub mod next;
 pub mod places;
 mod refused;
+pub mod searched;
 
 pub use above::{AboveList, NetAbove};
 pub use check::{check_cycles, first_unjustified, note_lemma};
@@ -20,5 +22,7 @@ pub use known::{NotedCycles, all_follow, covers, needs_more};
 pub use laws::{cycles_by_lemmas, wired_rows};
 pub use lemma::{CycleLemma, CycleLemmas};
 pub use lines::{add_end, add_step};
+pub use next::left_after;
 pub use places::Places;
 pub use refused::CyclesRefused;
+pub use searched::{numbered_start, row_of};

@@ -1,8 +1,6 @@
 -- Lemmas that are justified one after the other.
-use Rattle.std.proofs.Common.{ℕ, zero, suc, ◌≡◌, ◌+◌, ◌<◌, ◌≤◌, List, [], ◌∷◌, length, take, get_or, inl, inr, subst, arith, All, add-one}
-use Rattle.std.proofs.lemmas.List.{get_or_default}
+use Rattle.std.proofs.Common.{ℕ, zero, suc, ◌<◌, ◌≤◌, List, [], ◌∷◌, length, take, get_or, subst, arith, All, add-one}
 use Rattle.std.proofs.lemmas.List.Elements.{All-nil, All-more}
-use Rattle.std.proofs.lemmas.Bool.{cases_lt}
 use Rattle.cell_num.specs.declared.finger.Row.{Row}
 use Rattle.cell_num.specs.declared.net.Pins.{Pins}
 use Rattle.row_state.specs.declared.kind.Kinds.{Kinds}
@@ -10,18 +8,6 @@ use Rattle.row_state.specs.declared.state.State.{State}
 use Rattle.track_ways.specs.declared.lemma.TrackLemma.{TrackLemma}
 use Rattle.track_ways.specs.Certificate.{IsJustified, IsValid}
 use Rattle.track_check.specs.Refusal.{AreJustifiedBelow}
-
-pub none_below : (value : Row → State → Kinds → ℕ) (pins : Pins) (limit : ℕ) (k : Kinds) (lemmas : List TrackLemma) → AreJustifiedBelow value pins limit k lemmas 0
-none_below value pins limit k lemmas i d below = absurd (omega (arith, below))
-
-pub below_more : (value : Row → State → Kinds → ℕ) (pins : Pins) (limit : ℕ) (k : Kinds) (lemmas : List TrackLemma) (n : ℕ) (e : TrackLemma) → n < length lemmas → AreJustifiedBelow value pins limit k lemmas n → IsJustified value pins limit k (take n lemmas) (get_or lemmas n e) → AreJustifiedBelow value pins limit k lemmas (n + 1)
-below_more value pins limit k lemmas n e within before here i d below =
-    elim (cases_lt i n) [
-      | inl less ↦ before i d less
-      | inr more ↦
-          let last : n ≡ i = omega (arith, more, below) in
-          subst (λ j. IsJustified value pins limit k (take j lemmas) (get_or lemmas j d)) last (subst (IsJustified value pins limit k (take n lemmas)) (get_or_default lemmas n e d within) here)
-    ]
 
 -- those before a place are valid
 pub valid_below : (value : Row → State → Kinds → ℕ) (pins : Pins) (limit : ℕ) (k : Kinds) (lemmas : List TrackLemma) (n : ℕ) → n ≤ length lemmas → AreJustifiedBelow value pins limit k lemmas n → All (IsValid pins k) (take n lemmas)

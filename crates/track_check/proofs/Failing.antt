@@ -1,27 +1,23 @@
 -- When next columns leave a lemma justified.
-use Rattle.std.proofs.Common.{ℕ, ◌≡◌, ◌+◌, ◌-◌, ◌<◌, ◌≤◌, ◌↔◌, ◌==◌, Bool, List, [], ◌∷◌, length, get_or, inl, inr, refl, sym, subst, arith, All, Any, Contains, ◌∙◌}
+use Rattle.std.proofs.Common.{ℕ, ◌≡◌, ◌-◌, ◌↔◌, ◌==◌, Bool, List, [], ◌∷◌, length, inl, inr, refl, sym, subst, arith, All, Any, Contains, ◌∙◌}
 use Rattle.std.specs.Prelude.{IsTrue}
 use Rattle.std.proofs.lemmas.Bool.{eq-eqb, eqb-true}
-use Rattle.std.proofs.lemmas.List.Elements.{All-contains, All-get_or, All-head, All-nil}
+use Rattle.std.proofs.lemmas.List.{nil_from_length}
+use Rattle.std.proofs.lemmas.List.Elements.{All-contains, All-head, All-nil}
 use Rattle.cell_num.specs.declared.finger.Row.{Row}
 use Rattle.cell_num.specs.declared.net.Pins.{Pins}
-use Rattle.cell_num.proofs.Lists.{all_from_contains, all_imply, all_map}
+use Rattle.cell_num.proofs.Lists.{all_from_contains, all_imply}
 use Rattle.cell_num.proofs.Pairs.{Some', any_at, some_from_any}
-use Rattle.row_state.specs.declared.candidate.Candidate.{Candidate}
 use Rattle.row_state.specs.declared.kind.Kinds.{Kinds}
 use Rattle.row_state.specs.declared.state.State.{State}
 use Rattle.row_state.specs.declared.step.Step.{Step}
-use Rattle.row_state.specs.Candidates.{AreCandidates, IsCandidate, candidate_steps}
-use Rattle.row_state.specs.Completion.{cost_of}
-use Rattle.row_state.specs.Start.{IsState}
-use Rattle.row_state.specs.Steps.{IsPossible, column_of, state_after}
-use Rattle.row_state.proofs.Digits.{among_candidates}
+use Rattle.row_state.specs.Steps.{state_after}
 use Rattle.track_ways.specs.declared.track.NetTrack.{NetTrack}
 use Rattle.track_ways.specs.Ways.{goes_ways}
 use Rattle.track_ways.specs.declared.lemma.TrackLemma.{TrackLemma}
 use Rattle.track_ways.specs.Certificate.{CoversAll, NeedsMore}
 use Rattle.track_ways.specs.Checked.{CoversListed, IsRefutedListed}
-use Rattle.track_check.specs.Steps.{StepFailsListed, WaysFail}
+use Rattle.track_check.specs.Steps.{WaysFail}
 
 -- a state that needs more gaps is refuted whatever the tracks are
 pub more_fail : (value : Row → State → Kinds → ℕ) (pins : Pins) (limit : ℕ) (k : Kinds) (earlier : List TrackLemma) (lemma : TrackLemma) (step : Step) (left : ℕ) → NeedsMore value k (state_after k lemma.state step) left → WaysFail value pins limit k earlier lemma step left
@@ -73,39 +69,8 @@ known_fail value pins limit k earlier lemma step left s ways known after are few
       refuted_known value k earlier s left way few (subst (λ z. IsRefutedListed value k earlier z left way) (sym after) (All-contains (IsRefutedListed value k earlier (state_after k lemma.state step) left) (goes_ways pins limit k lemma.state lemma.tracks step) way fail (subst (λ ws. Contains ws way) are there))))),
 )
 
-rest_of : (cost left gaps : ℕ) → cost + left ≡ gaps → gaps - cost ≡ left
-rest_of cost left gaps sum = omega (arith, sum)
-
-sum_of : (cost gaps : ℕ) → cost ≤ gaps → cost + (gaps - cost) ≡ gaps
-sum_of cost gaps le = omega (arith, le)
-
--- the gaps that are left after a column are the one number that its cost allows
-pub step_decides : (value : Row → State → Kinds → ℕ) (pins : Pins) (limit : ℕ) (k : Kinds) (earlier : List TrackLemma) (lemma : TrackLemma) (step : Step) (cost : ℕ) (fail : Bool) → IsPossible k lemma.state step → cost ≡ cost_of lemma.state (column_of k step) → cost ≤ lemma.gaps → IsTrue fail ↔ WaysFail value pins limit k earlier lemma step (lemma.gaps - cost) → IsTrue fail ↔ StepFailsListed value pins limit k earlier lemma step
-step_decides value pins limit k earlier lemma step cost fail possible is le decides = (
-  λ yes left _ sum. subst (WaysFail value pins limit k earlier lemma step) (rest_of cost left lemma.gaps (subst (λ c. c + left ≡ lemma.gaps) (sym is) sum)) (decides.0 yes),
-  λ fails. decides.1 (fails (lemma.gaps - cost) possible (subst (λ c. c + (lemma.gaps - cost) ≡ lemma.gaps) is (sum_of cost lemma.gaps le))),
-)
-
--- a column that costs more than the gaps
-pub dear_fails : (value : Row → State → Kinds → ℕ) (pins : Pins) (limit : ℕ) (k : Kinds) (earlier : List TrackLemma) (lemma : TrackLemma) (step : Step) (cost : ℕ) → cost ≡ cost_of lemma.state (column_of k step) → lemma.gaps < cost → StepFailsListed value pins limit k earlier lemma step
-dear_fails value pins limit k earlier lemma step cost is dear left possible sum = absurd (omega (arith, is, dear, sum))
-
--- all columns of the list are all columns
-pub steps_all : (value : Row → State → Kinds → ℕ) (pins : Pins) (limit : ℕ) (k : Kinds) (earlier : List TrackLemma) (lemma : TrackLemma) (all : List Candidate) → IsState k lemma.state → AreCandidates k all → All (λ (c : Candidate). StepFailsListed value pins limit k earlier lemma c.step) all → (step : Step) → StepFailsListed value pins limit k earlier lemma step
-steps_all value pins limit k earlier lemma all state are each step left possible sum =
-    All-contains (StepFailsListed value pins limit k earlier lemma) (candidate_steps all) step
-    (all_map (λ (c : Candidate). StepFailsListed value pins limit k earlier lemma c.step) (StepFailsListed value pins limit k earlier lemma) (λ (c : Candidate). c.step) all (λ c h. h) each)
-    (among_candidates k all lemma.state step are state possible) left possible sum
-
-no_items : {X : Type 0} (xs : List X) → length xs ≡ 0 → xs ≡ []
-no_items [] e = refl
-no_items (x ∷ xs) e = absurd (omega (arith, e))
-
 pub no_ways : {X : Type 0} (xs : List X) (n : ℕ) → n ≡ length xs → IsTrue (n == 0) ↔ (xs ≡ [])
 no_ways xs n is = (
-  λ e. no_items xs (sym is ∙ eqb-true n 0 e),
+  λ e. nil_from_length xs (sym is ∙ eqb-true n 0 e),
   λ none. eq-eqb n 0 (is ∙ subst (λ ys. length ys ≡ 0) (sym none) refl),
 )
-
-pub candidate_is : (k : Kinds) (all : List Candidate) (i : ℕ) (d : Candidate) → AreCandidates k all → i < length all → IsCandidate k (get_or all i d)
-candidate_is k all i d are within = All-get_or (IsCandidate k) all i d within are.each

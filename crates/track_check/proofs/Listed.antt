@@ -20,7 +20,7 @@ make_track net track = record { net = net; track = track }
 made_track : {a b : NetNo} {i j : ℕ} → a ≡ b → i ≡ j → make_track a i ≡ make_track b j
 made_track e f = cc
 
-same_track : (t u : NetTrack) → t.net ≡ u.net → t.track ≡ u.track → t ≡ u
+pub same_track : (t u : NetTrack) → t.net ≡ u.net → t.track ≡ u.track → t ≡ u
 unfolding make_track
 same_track t u e f = made_track e f
 

@@ -21,7 +21,8 @@ use Rattle.track_check.specs.declared.rejected.TextRejected.TheVariants as becau
 abbrev pub limit_of : TrackCertificate → ℕ
 limit_of certificate = certificate.tracks - 1
 
--- one lemma is about all rows with that many gaps: one on tracks about any tracks, or one on cycles that asks for nothing
+-- one lemma is about all rows with that many gaps: one on tracks about any tracks, or one on cycles that asks for
+-- nothing
 abbrev pub HasStart : Kinds → TrackCertificate → Type 0
 HasStart k c = Any (CoversAll (start_of k) c.gaps) c.lemmas ⊎ Any (CycleCoversAll (start_of k) c.gaps) c.cycles
 

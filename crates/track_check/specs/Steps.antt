@@ -1,16 +1,16 @@
 -- When a next column leaves a lemma justified: by listed tracks.
-use Rattle.std.specs.Prelude.{ℕ, ◌≡◌, ◌+◌, ◌==◌, ◌&&◌, ◌||◌, not, Bool, List, All}
+use Rattle.std.specs.Prelude.{ℕ, ◌==◌, ◌&&◌, ◌||◌, not, Bool, List, All}
 use Rattle.cell_num.specs.declared.finger.Row.{Row}
 use Rattle.cell_num.specs.declared.net.Pins.{Pins}
 use Rattle.row_state.specs.declared.kind.Kinds.{Kinds}
 use Rattle.row_state.specs.declared.state.State.{State}
 use Rattle.row_state.specs.declared.step.Step.{Step}
-use Rattle.row_state.specs.Completion.{cost_of}
-use Rattle.row_state.specs.Steps.{IsPossible, column_of, state_after}
+use Rattle.row_state.specs.Steps.{state_after}
 use Rattle.track_ways.specs.declared.track.NetTrack.{NetTrack}
 use Rattle.track_ways.specs.Ways.{goes_ways}
 use Rattle.track_ways.specs.declared.lemma.TrackLemma.{TrackLemma}
 use Rattle.track_ways.specs.Checked.{IsRefutedListed}
+use Rattle.row_cycles.specs.Next.{IfLeft}
 
 -- the same net on the same track
 abbrev pub is_track : NetTrack → NetTrack → Bool
@@ -31,5 +31,4 @@ WaysFail value pins limit k earlier lemma step left =
 abbrev pub StepFailsListed :
     (Row → State → Kinds → ℕ) → Pins → ℕ → Kinds → List TrackLemma → TrackLemma → Step → Type 0
 StepFailsListed value pins limit k earlier lemma step =
-    (left : ℕ) → IsPossible k lemma.state step → cost_of lemma.state (column_of k step) + left ≡ lemma.gaps
-    → WaysFail value pins limit k earlier lemma step left
+    IfLeft k lemma.state lemma.gaps step (WaysFail value pins limit k earlier lemma step)

@@ -15,7 +15,7 @@ use crate::valid::is_valid;
 use crate::{NotedLemmas, state_nets, touches};
 use cell_num::{NoMemory, Pins};
 use row_cycles::needs_more;
-use row_state::{Candidates, Kinds, Numbered, RowBound, State, has_fingers, is_state};
+use row_state::{Candidates, Kinds, Numbered, RowBound, has_fingers, is_state};
 use row_trails::NETS;
 use std::alloc::Global;
 use track_ways::{TrackLemma, TrackWays, end_uncrowded, last_ways};
@@ -64,12 +64,6 @@ fn end_fails<B: RowBound>(
     Ok(is_empty(&ways))
 }
 
-fn copied(state: &State) -> Result<State, NoMemory>
-    ensures { IfOk result (λ copy. copy ≡ state.now) }
-{
-    Ok(state.clone()?)
-}
-
 // Whether each next column leaves the lemma justified, and the end of a row does.
 fn branches<B: RowBound>(
     alloc: Global,
@@ -88,7 +82,7 @@ fn branches<B: RowBound>(
     if !end_fails(alloc, grounds, lemma, before)? {
         return Ok(false);
     }
-    let state = copied(&lemma.state)?;
+    let state = lemma.state.copied()?;
     let from = Numbered::new(state, grounds.kinds);
     let fail = steps_fail(alloc, grounds, earlier, lemma, &from, before)?;
     Ok(fail)

@@ -10,7 +10,7 @@ ghost use Rattle.track_check.specs.Steps.{StepFailsListed, WaysFail};
 
 use crate::{NotedLemmas, TrackGrounds, nets_ahead, touches};
 use cell_num::NoMemory;
-use row_cycles::needs_more;
+use row_cycles::{left_after, needs_more};
 use row_state::{Candidate, Numbered, RowBound};
 use row_trails::NETS;
 use std::alloc::Global;
@@ -83,20 +83,15 @@ fn step_fails<B: RowBound>(
     ensures { IfOk result (λ fails. IsTrue fails ↔ StepFailsListed (B.value grounds.now.bound.now) grounds.now.pins.now
         grounds.now.limit grounds.now.kinds.now earlier.now.lemmas.now lemma.now next.now.step) }
 {
-    if !from.allows(grounds.kinds, next) {
+    let Some(left) = left_after(from, grounds.kinds, next, lemma.gaps) else {
         return Ok(true);
-    }
-    let cost = from.cost(next);
-    if lemma.gaps < cost {
-        return Ok(true);
-    }
-    let left = lemma.gaps - cost;
+    };
     let fail = ways_fail(alloc, grounds, earlier, lemma, from, before, next, left)?;
     Ok(fail)
 }
 
 // Whether each next column leaves the lemma justified.
-#[tactic(auto, using(crate::proofs::Failing::candidate_is))]
+#[tactic(auto, using(row_cycles::proofs::Left::candidate_is))]
 pub(crate) fn steps_fail<B: RowBound>(
     alloc: Global,
     grounds: &TrackGrounds<B>,

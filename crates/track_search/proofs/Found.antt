@@ -1,24 +1,20 @@
 -- The first completion along which tracks go, from that of the state after its first column.
-use Rattle.std.proofs.Common.{ℕ, zero, suc, ◌≡◌, ◌+◌, ◌-◌, ◌<◌, ◌≤◌, ◌⊎◌, ◌++◌, true, false, List, [], ◌∷◌, length, get_or, take, map, reverse, inl, inr, refl, sym, ap, subst, arith, All, Contains, ◌∙◌}
-use Rattle.std.proofs.lemmas.Bool.{cases_order}
-use Rattle.std.proofs.lemmas.List.{get_or-map, get_or-take, get_or_default, length-map, length-take, reverse-append}
+use Rattle.std.proofs.Common.{ℕ, ◌≡◌, ◌+◌, ◌-◌, ◌<◌, ◌≤◌, ◌++◌, true, false, List, [], ◌∷◌, length, get_or, take, map, reverse, inl, inr, refl, sym, ap, subst, arith, All, Contains, ◌∙◌}
+use Rattle.std.proofs.lemmas.List.{reverse-append}
 use Rattle.std.proofs.lemmas.List.Elements.{All-contains}
 use Rattle.cell_num.specs.declared.finger.Row.{Row}
 use Rattle.cell_num.specs.declared.net.NetNo.{NetNo}
 use Rattle.cell_num.specs.declared.net.Pins.{Pins}
 use Rattle.cell_num.proofs.Lists.{all_imply, contains_here}
 use Rattle.cell_num.proofs.Pairs.{Some', some_from_any}
-use Rattle.row_model.specs.declared.column.Column.{Column}
 use Rattle.row_state.specs.declared.candidate.Candidate.{Candidate}
 use Rattle.row_state.specs.declared.kind.Kinds.{Kinds}
 use Rattle.row_state.specs.declared.state.State.{State}
 use Rattle.row_state.specs.declared.step.Step.{Step}
-use Rattle.row_state.specs.Candidates.{AreCandidates, candidate_steps}
+use Rattle.row_state.specs.Candidates.{AreCandidates}
 use Rattle.row_state.specs.Completion.{Completes, cost_of, further_gaps}
-use Rattle.row_state.specs.Order.{ColumnBefore, RowBefore}
 use Rattle.row_state.specs.Start.{AreSomeKinds, IsState}
 use Rattle.row_state.specs.Steps.{IsPossible, column_of, state_after}
-use Rattle.row_state.proofs.Digits.{among_candidates}
 use Rattle.row_state.proofs.Unfold.{further_step}
 use Rattle.row_state.proofs.Valid.{gates_are_nets}
 use Rattle.row_state.proofs.Calls.{valid_after}
@@ -37,14 +33,13 @@ use Rattle.track_ways.specs.declared.lemma.TrackLemma.{TrackLemma}
 use Rattle.track_ways.specs.Certificate.{AreJustified}
 use Rattle.track_ways.specs.Checked.{IsRefutedListed}
 use Rattle.track_ways.proofs.Sound.{Holds, lemmas_true, refuted_fails}
+use Rattle.row_cycles.proofs.Completions.{complete_end, first_among, gaps_left, only_end}
 use Rattle.track_check.specs.Steps.{StepFailsListed}
 use Rattle.track_search.specs.declared.ahead.Ahead.{Ahead}
 use Rattle.track_search.specs.First.{IsFirstRouted, IsRouted, RunsOn}
 use Rattle.track_search.specs.Visit.{AreTaken, AreWaysAt, EndsFail, EndsGo, GoOn, HasPart, IsAhead, IsTaken, lemma_at}
 use Rattle.track_search.proofs.Grown.{WaysFail}
-use Rattle.track_search.proofs.Nothing.{nil_of}
 use Rattle.track_search.proofs.Refuted.{refuted_listed}
-use Rattle.track_search.proofs.Uncrowded.{complete_end}
 
 -- the tracks of a part
 part_tracks : (way other : List NetTrack) (track : NetNo → ℕ) → HasPart way other → AreTracksOf way track → AreTracksOf other track
@@ -73,9 +68,6 @@ after_first pins limit k s ways step steps on = parts on.runs
         let found : Some' (λ way. AreTracksOf way next) (goes_ways pins limit k s on.way step) = some_from_any (λ way. AreTracksOf way next) (goes_ways pins limit k s on.way step) (step_all pins limit k s step on.way on.track next on.lie goes) in
         record { way = on.way; there = on.there; next = found.it; listed = found.there; track = next; lie = found.holds; runs = more }
 
-within_after : (cost left gaps further rest : ℕ) → cost + left ≡ gaps → further ≡ cost + rest → further ≤ gaps → rest ≤ left
-within_after cost left gaps further rest e f le = omega (arith, e, f, le)
-
 -- a completion through a column that fails
 routed_fails : (value : Row → State → Kinds → ℕ) (pins : Pins) (limit : ℕ) (k : Kinds) (lemmas : List TrackLemma) (s : State) (ways : List (List NetTrack)) (gaps : ℕ) (step : Step) (steps : List Step) → AreSomeKinds k → Holds value k → AreJustified value pins limit k lemmas → IsState k s → All (λ way. StepFailsListed value pins limit k lemmas (lemma_at s gaps way) step) ways → IsRouted pins limit k s ways gaps (step ∷ steps) → ⊥
 routed_fails value pins limit k lemmas s ways gaps step steps some law all state fails routed =
@@ -85,13 +77,13 @@ routed_fails value pins limit k lemmas s ways gaps step steps some law all state
     refuted_none value pins limit k lemmas (state_after k s step) (gaps - cost_of s (column_of k step)) a.next a.track steps some law all (valid_after k s step some state routed.leads.0) a.lie
     (All-contains (IsRefutedListed value k lemmas (state_after k s step) (gaps - cost_of s (column_of k step))) (goes_ways pins limit k s a.way step) a.next
     (All-contains (λ way. StepFailsListed value pins limit k lemmas (lemma_at s gaps way) step) ways a.way fails a.there (gaps - cost_of s (column_of k step)) routed.leads.0 sum) a.listed)
-    routed.leads.1 (within_after (cost_of s (column_of k step)) (gaps - cost_of s (column_of k step)) gaps _ _ sum further routed.within) a.runs
+    routed.leads.1 (gaps_left k s step (map (column_of k) steps) (gaps - cost_of s (column_of k step)) gaps sum routed.within) a.runs
 
 -- a completion through the column goes on from the ways after it
 routed_after : (value : Row → State → Kinds → ℕ) (pins : Pins) (limit : ℕ) (k : Kinds) (lemmas : List TrackLemma) (s : State) (ways onward : List (List NetTrack)) (gaps left : ℕ) (step : Step) (steps : List Step) → AreSomeKinds k → Holds value k → AreJustified value pins limit k lemmas → IsState k s → cost_of s (column_of k step) + left ≡ gaps → All (AreTaken pins limit k lemmas s step (state_after k s step) left onward) ways → IsRouted pins limit k s ways gaps (step ∷ steps) → IsRouted pins limit k (state_after k s step) onward left steps
 routed_after value pins limit k lemmas s ways onward gaps left step steps some law all state sum taken routed =
-    let further : further_gaps s (column_of k step ∷ map (column_of k) steps) ≡ cost_of s (column_of k step) + further_gaps (state_after k s step) (map (column_of k) steps) = further_step k s step (map (column_of k) steps) in
-    let within : further_gaps (state_after k s step) (map (column_of k) steps) ≤ left = within_after (cost_of s (column_of k step)) left gaps _ _ sum further routed.within in
+    let within : further_gaps (state_after k s step) (map (column_of k) steps) ≤ left =
+    gaps_left k s step (map (column_of k) steps) left gaps sum routed.within in
     let a : After pins limit k s ways step steps = after_first pins limit k s ways step steps routed.on in
     let t : IsTaken lemmas (state_after k s step) left onward a.next = All-contains (IsTaken lemmas (state_after k s step) left onward) (goes_ways pins limit k s a.way step) a.next (All-contains (AreTaken pins limit k lemmas s step (state_after k s step) left onward) ways a.way taken a.there) a.listed in
     record {
@@ -137,42 +129,6 @@ routed_through pins limit k s ways onward gaps left step steps some state possib
       };
     }
 
--- the order of two rows that begin with next columns, by the places of these
-ordered : (k : Kinds) (steps : List Step) (i j : ℕ) (a b d : Step) (rest cs : List Column) → ((i j : ℕ) (d : Step) → i < j → j < length steps → ColumnBefore (column_of k (get_or steps i d)) (column_of k (get_or steps j d))) → get_or steps i d ≡ a → get_or steps j d ≡ b → j < length steps → (j < i → ⊥) → (a ≡ b → (rest ≡ cs) ⊎ RowBefore rest cs) → (column_of k a ∷ rest ≡ column_of k b ∷ cs) ⊎ RowBefore (column_of k a ∷ rest) (column_of k b ∷ cs)
-ordered k steps i j a b d rest cs order here there within not_before same =
-    elim (cases_order i j) [
-      | inl e ↦
-          let is : a ≡ b = sym here ∙ ap (λ (n : ℕ). get_or steps n d) e ∙ there in
-          elim (same is) [
-            | inl equal ↦ inl (ap (λ (z : Step). column_of k z ∷ rest) is ∙ ap (λ r. column_of k b ∷ r) equal)
-            | inr before ↦ inr (inr (ap (column_of k) is, before))
-          ]
-      | inr other ↦ elim other [
-        | inl less ↦ inr (inl (subst (λ z. ColumnBefore z (column_of k b)) (ap (column_of k) here) (subst (λ z. ColumnBefore (column_of k (get_or steps i d)) z) (ap (column_of k) there) (order i j d less within))))
-        | inr more ↦ absurd (not_before more)
-      ]
-    ]
-
-no_rows : (k : Kinds) (s : State) (c : Column) (cs : List Column) → Completes k s [] → Completes k s (c ∷ cs) → ⊥
-no_rows k s c cs none some = omega (arith, none.fewest, some.fewest)
-
-first_with : (value : Row → State → Kinds → ℕ) (pins : Pins) (limit : ℕ) (k : Kinds) (lemmas : List TrackLemma) (s : State) (ways onward : List (List NetTrack)) (gaps left : ℕ) (items : List Candidate) (i : ℕ) (d : Candidate) (rest : List Step) → AreSomeKinds k → Holds value k → AreJustified value pins limit k lemmas → IsState k s → AreCandidates k items → i < length items → All (WaysFail value pins limit k lemmas s gaps ways) (take i items) → cost_of s (column_of k (get_or items i d).step) + left ≡ gaps → All (AreTaken pins limit k lemmas s (get_or items i d).step (state_after k s (get_or items i d).step) left onward) ways → IsFirstRouted pins limit k (state_after k s (get_or items i d).step) onward left rest → Completes k s (column_of k (get_or items i d).step ∷ map (column_of k) rest) → (other : List Step) → IsRouted pins limit k s ways gaps other → (column_of k (get_or items i d).step ∷ map (column_of k) rest ≡ map (column_of k) other) ⊎ RowBefore (column_of k (get_or items i d).step ∷ map (column_of k) rest) (map (column_of k) other)
-first_with value pins limit k lemmas s ways onward gaps left items i d rest some law all state are within fails sum taken h whole [] routed = absurd (no_rows k s _ _ routed.leads whole)
-first_with value pins limit k lemmas s ways onward gaps left items i d rest some law all state are within fails sum taken h whole (z ∷ zs) routed =
-    let steps : List Step = candidate_steps items in
-    let there : Contains steps z = among_candidates k items s z are state routed.leads.0 in
-    let j : ℕ = there.0 in
-    let inside : j < length items = omega (arith, there.1, length-map items (λ (c : Candidate). c.step)) in
-    let here : get_or steps i d.step ≡ (get_or items i d).step = get_or-map (λ (c : Candidate). c.step) items i d d.step within in
-    let is_z : get_or steps j d.step ≡ z = get_or_default steps j d.step z there.1 ∙ there.2 in
-    let item : (get_or items j d).step ≡ z = sym (get_or-map (λ (c : Candidate). c.step) items j d d.step inside) ∙ is_z in
-    ordered k steps i j (get_or items i d).step z d.step (map (column_of k) rest) (map (column_of k) zs) are.steps.order here is_z there.1
-    (λ less.
-    let shorter : j < length (take i items) = omega (arith, length-take i items, less, within) in
-    let bad : WaysFail value pins limit k lemmas s gaps ways (get_or items j d) = subst (WaysFail value pins limit k lemmas s gaps ways) (get_or-take i items j d less) (fails j d shorter) in
-    routed_fails value pins limit k lemmas s ways gaps z zs some law all state (subst (λ (y : Step). All (λ way. StepFailsListed value pins limit k lemmas (lemma_at s gaps way) y) ways) item bad) routed)
-    (λ same. h.first zs (routed_after value pins limit k lemmas s ways onward gaps left (get_or items i d).step zs some law all state sum taken (subst (λ (y : Step). IsRouted pins limit k s ways gaps (y ∷ zs)) (sym same) routed)))
-
 -- the first completion after the first column that does not fail is the first of the state
 pub first_through : (value : Row → State → Kinds → ℕ) (pins : Pins) (limit : ℕ) (k : Kinds) (lemmas : List TrackLemma) (s : State) (ways onward : List (List NetTrack)) (gaps : ℕ) (ahead : Ahead) (items : List Candidate) (i : ℕ) (d : Candidate) (rest pushed : List Step) → AreSomeKinds k → Holds value k → AreJustified value pins limit k lemmas → IsState k s → AreCandidates k items → AreWaysAt pins k s ways → AreWaysAt pins k (state_after k s (get_or items i d).step) onward → i < length items → All (WaysFail value pins limit k lemmas s gaps ways) (take i items) → IsAhead pins limit k s gaps (get_or items i d).step ahead → All (AreTaken pins limit k lemmas s (get_or items i d).step ahead.state.state ahead.left onward) ways → All (GoOn pins limit k s (get_or items i d).step ways) onward → IsFirstRouted pins limit k ahead.state.state onward ahead.left (reverse rest) → pushed ≡ rest ++ (get_or items i d).step ∷ [] → IsFirstRouted pins limit k s ways gaps (reverse pushed)
 first_through value pins limit k lemmas s ways onward gaps ahead items i d rest pushed some law all state are keys after within fails a taken from h is =
@@ -183,7 +139,15 @@ first_through value pins limit k lemmas s ways onward gaps ahead items i d rest 
     subst (IsFirstRouted pins limit k s ways gaps) (sym (ap reverse is ∙ reverse-append rest (step ∷ [])))
     (record {
       routed = routed;
-      first = first_with value pins limit k lemmas s ways onward gaps ahead.left items i d (reverse rest) some law all state are within fails a.left taken' h' (completes k s (step ∷ reverse rest) (gates_are_nets k some) routed.leads);
+      first = λ other also.
+          first_among k s items i d (map (column_of k) (reverse rest)) other
+          (WaysFail value pins limit k lemmas s gaps ways) state are within
+          (completes k s (step ∷ reverse rest) (gates_are_nets k some) routed.leads) fails
+          (λ next zs bad is. routed_fails value pins limit k lemmas s ways gaps next.step zs some law all state bad
+          (subst (IsRouted pins limit k s ways gaps) is also))
+          (λ zs is. h'.first zs (routed_after value pins limit k lemmas s ways onward gaps ahead.left step zs some law
+          all state a.left taken' (subst (IsRouted pins limit k s ways gaps) is also)))
+          also.leads;
     })
 
 -- a way from which tracks go through the last line
@@ -207,5 +171,5 @@ first_at_end pins limit k s ways gaps steps some state keys ends is =
         within = omega arith;
         on = record { way = go.it; there = go.there; track = last.0; lie = last.1; runs = last.2 };
       };
-      first = λ other routed. inl (sym (nil_of (map (column_of k) other) ((completes k s other (gates_are_nets k some) routed.leads).fewest ∙ sym whole.fewest)));
+      first = λ other routed. inl (sym (only_end k s (map (column_of k) other) whole (completes k s other (gates_are_nets k some) routed.leads)));
     })

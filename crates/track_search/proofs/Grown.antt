@@ -21,8 +21,8 @@ use Rattle.track_ways.specs.declared.track.NetTrack.{NetTrack}
 use Rattle.track_ways.specs.declared.lemma.TrackLemma.{TrackLemma}
 use Rattle.track_ways.specs.Certificate.{CoversAll}
 use Rattle.track_ways.specs.Checked.{CoversListed, IsJustifiedListed, IsRefutedListed}
-use Rattle.track_check.specs.Steps.{StepFailsListed}
-use Rattle.track_check.proofs.Failing.{steps_all}
+use Rattle.track_check.specs.Steps.{StepFailsListed, WaysFail as LeftFails}
+use Rattle.row_cycles.proofs.Left.{each_left, same_left}
 use Rattle.track_search.specs.declared.ahead.Ahead.{Ahead}
 use Rattle.track_search.specs.declared.progress.Progress.{Progress}
 use Rattle.track_search.specs.InOrder.{in_order}
@@ -45,9 +45,6 @@ ways_fail_more value pins limit k xs ys more s allowed ways items is all =
 pub column_fails : (value : Row → State → Kinds → ℕ) (pins : Pins) (limit : ℕ) (k : Kinds) (lemmas : List TrackLemma) (s : State) (allowed : ℕ) (ways : List (List NetTrack)) (items : List Candidate) (i : ℕ) (d : Candidate) → i < length items → All (WaysFail value pins limit k lemmas s allowed ways) (take i items) → ColumnFails value pins limit k lemmas s allowed (get_or items i d).step → All (WaysFail value pins limit k lemmas s allowed ways) (take (i + 1) items)
 column_fails value pins limit k lemmas s allowed ways items i d within all fails =
     All-more (WaysFail value pins limit k lemmas s allowed ways) items i d within all (all_from_contains (λ way. StepFailsListed value pins limit k lemmas (lemma_at s allowed way) (get_or items i d).step) ways (λ way there. fails way))
-
-same_left : (cost left other gaps : ℕ) → cost + left ≡ gaps → cost + other ≡ gaps → other ≡ left
-same_left cost left other gaps e f = omega (arith, e, f)
 
 -- a lemma that speaks of a part of a way speaks of the way
 covers_whole : (lemmas : List TrackLemma) (s : State) (gaps : ℕ) (way part : List NetTrack) → HasPart way part → Any (CoversListed s gaps part) lemmas → Any (CoversListed s gaps way) lemmas
@@ -72,7 +69,7 @@ covers_any lemmas s gaps way any =
 -- the state after the column needs more gaps, or a lemma speaks of it for all tracks
 pub shut_fails : (value : Row → State → Kinds → ℕ) (pins : Pins) (limit : ℕ) (k : Kinds) (lemmas : List TrackLemma) (s : State) (allowed left : ℕ) (step : Step) → cost_of s (column_of k step) + left ≡ allowed → IsShut value k lemmas (state_after k s step) left → ColumnFails value pins limit k lemmas s allowed step
 shut_fails value pins limit k lemmas s allowed left step sum shut way other possible also =
-    subst (λ n. All (IsRefutedListed value k lemmas (state_after k s step) n) (goes_ways pins limit k s way step)) (sym (same_left (cost_of s (column_of k step)) left other allowed sum also))
+    subst (λ n. All (IsRefutedListed value k lemmas (state_after k s step) n) (goes_ways pins limit k s way step)) (same_left (cost_of s (column_of k step)) left other allowed sum also)
     (all_from_contains (IsRefutedListed value k lemmas (state_after k s step) left) (goes_ways pins limit k s way step) (λ next at. elim shut [
       | inl needs ↦ inl needs
       | inr any ↦ inr (covers_any lemmas (state_after k s step) left next any)
@@ -88,7 +85,7 @@ closed_fails value pins limit k lemmas s allowed ways step ahead a any =
 pub ahead_fails : (value : Row → State → Kinds → ℕ) (pins : Pins) (limit : ℕ) (k : Kinds) (xs ys more : List TrackLemma) (s : State) (allowed : ℕ) (ways onward : List (List NetTrack)) (step : Step) (ahead : Ahead) → ys ≡ xs ++ more → IsAhead pins limit k s allowed step ahead → All (AreTaken pins limit k xs s step ahead.state.state ahead.left onward) ways → AreCovered ys ahead.state.state ahead.left onward → All (λ way. StepFailsListed value pins limit k ys (lemma_at s allowed way) step) ways
 ahead_fails value pins limit k xs ys more s allowed ways onward step ahead is a taken covered =
     all_imply (AreTaken pins limit k xs s step ahead.state.state ahead.left onward) (λ way. StepFailsListed value pins limit k ys (lemma_at s allowed way) step) ways (λ way all left possible sum.
-    subst (λ n. All (IsRefutedListed value k ys (state_after k s step) n) (goes_ways pins limit k s way step)) (sym (same_left (cost_of s (column_of k step)) ahead.left left allowed a.left sum))
+    subst (λ n. All (IsRefutedListed value k ys (state_after k s step) n) (goes_ways pins limit k s way step)) (same_left (cost_of s (column_of k step)) ahead.left left allowed a.left sum)
     (subst (λ z. All (IsRefutedListed value k ys z ahead.left) (goes_ways pins limit k s way step)) a.state
     (all_imply (IsTaken xs ahead.state.state ahead.left onward) (IsRefutedListed value k ys ahead.state.state ahead.left) (goes_ways pins limit k s way step) (λ next t. inr (known next t)) all))) taken
   where
@@ -152,7 +149,7 @@ each_justified : (value : Row → State → Kinds → ℕ) (pins : Pins) (limit 
 each_justified value pins limit k lemmas s allowed ways all are state fit of_open fails ends =
     all_from_contains (λ way. IsJustifiedListed value pins limit k lemmas (lemma_at s allowed way)) ways (λ way there.
     let own : IsOfOpen pins k s way = All-contains (IsOfOpen pins k s) ways way of_open there in
-    let steps : (step : Step) → StepFailsListed value pins limit k lemmas (lemma_at s allowed way) step = steps_all value pins limit k lemmas (lemma_at s allowed way) all state are (all_imply (WaysFail value pins limit k lemmas s allowed ways) (λ (c : Candidate). StepFailsListed value pins limit k lemmas (lemma_at s allowed way) c.step) all (λ c each. All-contains (λ way. StepFailsListed value pins limit k lemmas (lemma_at s allowed way) c.step) ways way each there) fails) in
+    let steps : (step : Step) → StepFailsListed value pins limit k lemmas (lemma_at s allowed way) step = each_left k s allowed all (LeftFails value pins limit k lemmas (lemma_at s allowed way)) state are (all_imply (WaysFail value pins limit k lemmas s allowed ways) (λ (c : Candidate). StepFailsListed value pins limit k lemmas (lemma_at s allowed way) c.step) all (λ c each. All-contains (λ way. StepFailsListed value pins limit k lemmas (lemma_at s allowed way) c.step) ways way each there) fails) in
     record {
       valid = record { state = state; ends = fit; open' = own.open'; one = own.one };
       holds = inr (record { steps = λ step left possible sum. steps step left possible sum; ends = λ none. All-contains (EndsFail pins limit k s) ways way (ends none) there });

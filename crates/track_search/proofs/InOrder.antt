@@ -5,7 +5,6 @@ use Rattle.std.proofs.lemmas.Bool.{and_from, eq-eqb, eqb-true, lt-ltb}
 use Rattle.std.proofs.lemmas.List.Elements.{All-contains}
 use Rattle.std.proofs.lemmas.List.FromFn.{get_or-range_with_len, length-range_with_len}
 use Rattle.std.proofs.lemmas.List.Kept.{AllPairs-cons}
-use Rattle.cell_num.specs.declared.net.NetNo.{NetNo}
 use Rattle.cell_num.proofs.Lists.{Kept, all_from_contains, contains_cons, contains_filter_map, contains_here, contains_none, contains_there, kept_from, some_same}
 use Rattle.cell_num.proofs.Pairs.{pairs_head, pairs_none, pairs_tail}
 use Rattle.trail_log.specs.Order.{increases}
@@ -13,6 +12,7 @@ use Rattle.track_log.specs.Line.{track_rank}
 use Rattle.track_ways.specs.declared.track.NetTrack.{NetTrack}
 use Rattle.track_ways.specs.Tracks.{IsSingle}
 use Rattle.track_ways.proofs.Complete.{in_range, net_same}
+use Rattle.track_check.proofs.Listed.{same_track}
 use Rattle.track_search.specs.InOrder.{in_order, track_in}
 
 pub range_below : (n x : ℕ) → Contains (range_with_len 0 n) x → x < n
@@ -80,22 +80,12 @@ in_order_from nets way t there =
     let f : Found (λ (u : NetTrack). u.net.0 == k.from) way t = find_is (λ (u : NetTrack). u.net.0 == k.from) way t k.gives in
     record { there = f.there; low = omega (arith, range_below nets k.from k.there, net_found way k.from t k.gives) }
 
-make_track : NetNo → ℕ → NetTrack
-make_track net track = record { net = net; track = track }
-
-made_track : {a b : NetNo} {i j : ℕ} → a ≡ b → i ≡ j → make_track a i ≡ make_track b j
-made_track e f = cc
-
-track_same : (t u : NetTrack) → t.net ≡ u.net → t.track ≡ u.track → t ≡ u
-unfolding make_track
-track_same t u e f = made_track e f
-
 pub in_order_to : (nets : ℕ) (way : List NetTrack) (t : NetTrack) → IsSingle way → t.net.0 < nets → Contains way t → Contains (in_order nets way) t
 in_order_to nets way t one low there =
     let f : Finds (λ (u : NetTrack). u.net.0 == t.net.0) way = finds (λ (u : NetTrack). u.net.0 == t.net.0) way t there (eq-eqb t.net.0 t.net.0 refl) in
     let is : Found (λ (u : NetTrack). u.net.0 == t.net.0) way f.it = find_is (λ (u : NetTrack). u.net.0 == t.net.0) way f.it f.is in
     let net : f.it.net.0 ≡ t.net.0 = eqb-true f.it.net.0 t.net.0 is.holds in
-    let same : f.it ≡ t = track_same f.it t (net_same f.it.net t.net net) (one f.it t is.there there net) in
+    let same : f.it ≡ t = same_track f.it t (net_same f.it.net t.net net) (one f.it t is.there there net) in
     contains_filter_map (track_in way) (range_with_len 0 nets) t.net.0 t (in_range nets t.net.0 low) (f.is ∙ ap (λ (z : NetTrack). Some z) same)
 
 -- numbers of which each is less than the next

@@ -7,7 +7,6 @@ pub mod Least
 pub mod Legal
 pub mod Lists
 pub mod LowestFound
-pub mod Nothing
 pub mod Refuted
 pub mod Spent
 pub mod Starts

@@ -1,7 +1,6 @@
 -- What loops over lists show.
-use Rattle.std.proofs.Common.{ℕ, ◌≡◌, ◌+◌, ◌<◌, ◌≤◌, ◌↔◌, ◌==◌, ◌++◌, List, [], ◌∷◌, length, get_or, take, take_all, inl, inr, refl, sym, ap, subst, arith, All, Any, Contains, ◌∙◌, append_assoc, append-nil}
-use Rattle.std.specs.Prelude.{IsTrue}
-use Rattle.std.proofs.lemmas.Bool.{eq-eqb, eqb-true}
+use Rattle.std.proofs.Common.{ℕ, ◌≡◌, ◌+◌, ◌<◌, ◌≤◌, ◌++◌, List, [], ◌∷◌, length, get_or, take, take_all, inl, inr, sym, ap, subst, All, Any, Contains, ◌∙◌, append_assoc, append-nil}
+use Rattle.std.proofs.lemmas.List.{nil_from_length}
 use Rattle.std.proofs.lemmas.List.Elements.{All-nil, All-append, All-contains, All-contains_itself, All-more, All-push, All-weaker, Contains-append_right}
 use Rattle.cell_num.specs.declared.net.Pins.{Pins}
 use Rattle.cell_num.proofs.Lists.{all_from_contains, all_imply, all_one, contains_here}
@@ -15,19 +14,9 @@ use Rattle.track_ways.specs.declared.lemma.TrackLemma.{TrackLemma}
 use Rattle.track_ways.specs.Checked.{CoversListed}
 use Rattle.track_search.specs.Visit.{AreAdded, AreFresh, AreTaken, GoOn, HasPart, IsTaken}
 
-no_items : {X : Type 0} (xs : List X) → length xs ≡ 0 → xs ≡ []
-no_items [] e = refl
-no_items (x ∷ xs) e = absurd (omega (arith, e))
-
-pub no_ways : {X : Type 0} (xs : List X) (n : ℕ) → n ≡ length xs → IsTrue (n == 0) ↔ (xs ≡ [])
-no_ways xs n is = (
-  λ e. no_items xs (sym is ∙ eqb-true n 0 e),
-  λ none. eq-eqb n 0 (is ∙ subst (λ ys. length ys ≡ 0) (sym none) refl),
-)
-
 -- nothing holds of the items of an empty list
 pub all_of_none : {X : Type 0} (P : X → Type 0) (xs : List X) (n : ℕ) → n ≡ length xs → n ≡ 0 → All P xs
-all_of_none P xs n is none = subst (All P) (sym (no_items xs (sym is ∙ none))) (All-nil P)
+all_of_none P xs n is none = subst (All P) (sym (nil_from_length xs (sym is ∙ none))) (All-nil P)
 
 taken_grown : (lemmas : List TrackLemma) (s : State) (left : ℕ) (xs ys : List (List NetTrack)) (more : List (List NetTrack)) → ys ≡ xs ++ more → (way : List NetTrack) → IsTaken lemmas s left xs way → IsTaken lemmas s left ys way
 taken_grown lemmas s left xs ys more is way (inl known) = inl known

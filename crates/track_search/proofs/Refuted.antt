@@ -1,8 +1,5 @@
 -- What lemmas say of ways stays said when there are more of them, and is true.
-use Rattle.std.proofs.Common.{ℕ, true, ◌≡◌, ◌++◌, List, [], ◌∷◌, length, get_or, take, map, inl, inr, refl, sym, subst, arith, All, Any, Contains, length-append, append_assoc, append-nil}
-use Rattle.std.proofs.lemmas.Bool.{cases_lt}
-use Rattle.std.proofs.Math.Seq.{get_or-append_seam, take-append_seam}
-use Rattle.std.proofs.lemmas.List.{take-append-le, get_or_append_left}
+use Rattle.std.proofs.Common.{ℕ, true, ◌≡◌, ◌++◌, List, [], ◌∷◌, map, inl, inr, refl, sym, subst, All, Any, Contains, append_assoc, append-nil}
 use Rattle.std.proofs.lemmas.List.Elements.{All-contains, All-head, All-tail, All-weaker}
 use Rattle.cell_num.specs.declared.finger.Row.{Row}
 use Rattle.cell_num.specs.declared.net.NetNo.{NetNo}
@@ -23,6 +20,7 @@ use Rattle.track_ways.specs.Certificate.{AreJustified, Covers, CoversAll, IsJust
 use Rattle.track_ways.specs.Checked.{CoversListed, IsJustifiedListed, IsRefutedListed}
 use Rattle.track_ways.proofs.Checked.{justified_decided}
 use Rattle.track_check.specs.Steps.{StepFailsListed}
+use Rattle.row_cycles.proofs.Certified.{each_push}
 use Rattle.track_search.specs.InOrder.{in_order}
 use Rattle.track_search.specs.Visit.{AreCovered, AreFresh, HasPart, kept_at, lemma_at}
 use Rattle.track_search.proofs.Kept.{AreSame}
@@ -53,19 +51,6 @@ justified_more value pins limit k xs ys more lemma is h = record {
 all_valid : (value : Row → State → Kinds → ℕ) (pins : Pins) (limit : ℕ) (k : Kinds) (xs : List TrackLemma) → AreJustified value pins limit k xs → All (IsValid pins k) xs
 all_valid value pins limit k xs all i d within = (all i d within).valid
 
-justified_push : (value : Row → State → Kinds → ℕ) (pins : Pins) (limit : ℕ) (k : Kinds) (xs : List TrackLemma) (x : TrackLemma) → AreJustified value pins limit k xs → IsJustified value pins limit k xs x → AreJustified value pins limit k (xs ++ x ∷ [])
-justified_push value pins limit k xs x all here i d within =
-    elim (cases_lt i (length xs)) [
-      | inl less ↦
-          let e : take i (xs ++ x ∷ []) ≡ take i xs = take-append-le i xs (x ∷ []) (omega arith) in
-          let f : get_or (xs ++ x ∷ []) i d ≡ get_or xs i d = get_or_append_left xs (x ∷ []) d i less in
-          subst (λ y. IsJustified value pins limit k (take i (xs ++ x ∷ [])) y) (sym f) (subst (λ ys. IsJustified value pins limit k ys (get_or xs i d)) (sym e) (all i d less))
-      | inr more ↦
-          let at : length xs ≡ i = omega (arith, length-append xs (x ∷ []), within) in
-          subst (λ n. IsJustified value pins limit k (take n (xs ++ x ∷ [])) (get_or (xs ++ x ∷ []) n d)) at
-          (subst (λ y. IsJustified value pins limit k (take (length xs) (xs ++ x ∷ [])) y) (sym (get_or-append_seam xs x [] d)) (subst (λ ys. IsJustified value pins limit k ys x) (sym (take-append_seam xs (x ∷ []))) here))
-    ]
-
 have_tracks : (xs ys : List NetTrack) (track : NetNo → ℕ) → All (Contains xs) ys → AreTracksOf xs track → AreTracksOf ys track
 have_tracks xs ys track there lie = all_imply (Contains xs) (λ (t : NetTrack). track t.net ≡ t.track) ys (λ t at. All-contains (λ (t : NetTrack). track t.net ≡ t.track) xs t lie at) there
 
@@ -95,7 +80,7 @@ kept_all value pins limit k some s gaps (way ∷ ways) xs all same each =
     let rest : All (λ way. IsJustifiedListed value pins limit k xs (lemma_at s gaps way)) ways = All-tail (λ way. IsJustifiedListed value pins limit k xs (lemma_at s gaps way)) way ways each in
     let alike : AreSame way (in_order k.nets way) = All-head (λ way. AreSame way (in_order k.nets way)) way ways same in
     let own : IsJustified value pins limit k xs (kept_at k.nets s gaps way) = justified_same value pins limit k xs s gaps way (in_order k.nets way) alike ((justified_decided value pins limit k xs (lemma_at s gaps way) some (all_valid value pins limit k xs all)).1 here) in
-    let one : AreJustified value pins limit k (xs ++ kept_at k.nets s gaps way ∷ []) = justified_push value pins limit k xs (kept_at k.nets s gaps way) all own in
+    let one : AreJustified value pins limit k (xs ++ kept_at k.nets s gaps way ∷ []) = each_push (IsJustified value pins limit k) xs (kept_at k.nets s gaps way) all own in
     subst (AreJustified value pins limit k) (append_assoc xs (kept_at k.nets s gaps way ∷ []) (map (kept_at k.nets s gaps) ways))
     (kept_all value pins limit k some s gaps ways (xs ++ kept_at k.nets s gaps way ∷ []) one (All-tail (λ way. AreSame way (in_order k.nets way)) way ways same)
     (All-weaker (λ way. IsJustifiedListed value pins limit k xs (lemma_at s gaps way)) (λ w. IsJustifiedListed value pins limit k (xs ++ kept_at k.nets s gaps way ∷ []) (lemma_at s gaps w)) (λ w h. justified_more value pins limit k xs (xs ++ kept_at k.nets s gaps way ∷ []) (kept_at k.nets s gaps way ∷ []) (lemma_at s gaps w) refl h) ways rest))

@@ -11,7 +11,7 @@ use row_state::{RowBound, State, has_fingers};
 use row_trails::NETS;
 use track_ways::{NetTracks, TrackWays, last_ways};
 
-#[tactic(auto, using(crate::proofs::Lists::no_ways))]
+#[tactic(auto, using(track_check::proofs::Failing::no_ways))]
 fn is_empty(ways: &TrackWays) -> bool
     ensures { IsTrue result ↔ (ways.now ≡ []) }
 {

@@ -9,8 +9,9 @@ ghost use Rattle.track_search.specs.Kept.{IsKeptWithin, IsWithin};
 
 use crate::Limit;
 use crate::ahead::Task;
-use crate::limit::{numbered_start, search_task};
+use crate::limit::search_task;
 use cell_num::{NoMemory, Pins};
+use row_cycles::numbered_start;
 use row_model::Arrangement;
 use row_state::{Kinds, Numbered, RowBound, candidates};
 use std::alloc::Global;

@@ -1,8 +1,7 @@
 // The first row with tracks below a limit, or a certificate that none has.
-ghost use Rattle.std.specs.Prelude.{◌≡◌, ◌≤◌, [], ◌∷◌, IfErr, IfNone, IfOk, IfSome, length, map, reverse};
+ghost use Rattle.std.specs.Prelude.{◌≡◌, ◌≤◌, [], ◌∷◌, IfErr, IfNone, IfOk, IfSome, length};
 ghost use Rattle.row_state.specs.Candidates.{AreCandidates, IsNumbered};
 ghost use Rattle.row_state.specs.Start.{start_of};
-ghost use Rattle.row_state.specs.Steps.{column_of};
 ghost use Rattle.track_check.specs.Touches.{AreTouches};
 ghost use Rattle.track_ways.specs.Certificate.{Certifies};
 ghost use Rattle.cell_num.specs.declared.halt.Halt.TheVariants.{Spent};
@@ -13,10 +12,11 @@ ghost use Rattle.track_search.specs.Limit.{HasReason, IsEnd, IsFirstRow, NeedsMo
 use crate::ahead::Task;
 use crate::descent::visit;
 use crate::progress::Progress;
-use cell_num::{Halt, List, NoMemory, Pins};
-use row_model::{Arrangement, Column};
-use row_state::{Kinds, Numbered, RowBound, Step, candidates, column, start};
-use std::alloc::{AllocError, Global};
+use cell_num::{Halt, NoMemory, Pins};
+use row_cycles::{numbered_start, row_of};
+use row_model::Arrangement;
+use row_state::{Kinds, Numbered, RowBound, candidates};
+use std::alloc::Global;
 use track_check::touches;
 use track_ways::{NetTracks, TrackLemmas, TrackWays};
 
@@ -29,30 +29,6 @@ pub enum Limit {
     Refuted { lemmas: TrackLemmas },
     /// There is a lemma more than the budget allows.
     Spent,
-}
-
-fn columns(alloc: Global, steps: &[Step], kinds: &Kinds) -> Result<Vec<Column>, AllocError>
-    ensures { IfOk result (λ columns. columns.items ≡ map (column_of kinds.now) (reverse steps.now)) }
-{
-    steps
-        .iter()
-        .rev()
-        .map(|step| column(step, kinds))
-        .collect(alloc)
-}
-
-// The row of the steps, which were found from the last to the first.
-fn row_of(alloc: Global, steps: &[Step], kinds: &Kinds) -> Result<Arrangement, NoMemory>
-    ensures { IfOk result (λ row. row ≡ map (column_of kinds.now) (reverse steps.now)) }
-{
-    Ok(List::from_vec(columns(alloc, steps, kinds)?))
-}
-
-pub(crate) fn numbered_start(alloc: Global, kinds: &Kinds) -> Result<Numbered, NoMemory>
-    ensures state { IfOk result (λ first. first.state ≡ start_of kinds.now) }
-    ensures numbered { IfOk result (IsNumbered kinds.now) }
-{
-    Ok(Numbered::new(start(alloc, kinds)?, kinds))
 }
 
 // At the start no net has a track.

@@ -34,12 +34,6 @@ pub(crate) fn in_order(
         .collect(alloc)
 }
 
-fn copied_state(state: &State) -> Result<State, NoMemory>
-    ensures { IfOk result (λ copy. copy ≡ state.now) }
-{
-    Ok(state.clone()?)
-}
-
 /// The same tracks again.
 pub(crate) fn copied_way(alloc: Global, way: &NetTracks) -> Result<NetTracks, NoMemory>
     ensures { IfOk result (λ copy. copy ≡ way.now) }
@@ -65,7 +59,7 @@ pub(crate) fn kept_at(
 ) -> Result<TrackLemma, NoMemory>
     ensures { IfOk result (λ lemma. lemma ≡ kept_at nets state.now gaps way.now) }
 {
-    let state = copied_state(state)?;
+    let state = state.copied()?;
     let tracks = ordered_way(alloc, nets, way)?;
     Ok(TrackLemma {
         state,

@@ -1,4 +1,5 @@
 use Rattle.std.proofs.Common.{arith, refl, subst, take, take_all}
+use Rattle.row_cycles.specs.Certificate.{IsJustified}
 use Rattle.row_cycles.specs.Noted.{AreNoted, state_of}
 use Rattle.row_cycles.proofs.Certified.{below_more, none_below}
 use Rattle.row_cycles.proofs.Loops.{not_both}
@@ -7,7 +8,9 @@ use Rattle.row_cycles.proofs.check.first_unjustified.Goals as goal
 
 pub loop-at-init : goal.loop-at-init
 loop-at-init g c = (
-  none_below (g.B.RowBound.value c.args.grounds.now.bound.now) c.args.grounds.now.pins.now c.args.grounds.now.kinds.now c.args.lemmas.now,
+  none_below
+      (IsJustified (g.B.RowBound.value c.args.grounds.now.bound.now) c.args.grounds.now.pins.now
+      c.args.grounds.now.kinds.now) c.args.lemmas.now,
   none_noted state_of c.args.grounds.now.kinds.now (take 0 c.args.lemmas.now) c.args.places.now refl,
 )
 
@@ -20,7 +23,10 @@ note_lemma-requires-clause-state g c d = ((c.in_ok-is_justified_at.ensures d).0 
 
 pub loop-at-preserved : goal.loop-at-preserved
 loop-at-preserved g c = (
-  λ i d below. below_more (g.B.RowBound.value c.args.grounds.now.bound.now) c.args.grounds.now.pins.now c.args.grounds.now.kinds.now c.args.lemmas.now c.loop-at.at d c.loop-at-test.true c.loop-at.invariant.0 ((c.in_ok-is_justified_at.ensures d).0 c.if-not-branch.false) i d below,
+  λ i d below.
+      below_more
+      (IsJustified (g.B.RowBound.value c.args.grounds.now.bound.now) c.args.grounds.now.pins.now
+      c.args.grounds.now.kinds.now) c.args.lemmas.now c.loop-at.at d c.loop-at-test.true c.loop-at.invariant.0 ((c.in_ok-is_justified_at.ensures d).0 c.if-not-branch.false) i d below,
   c.in_ok-note_lemma.ensures,
 )
 

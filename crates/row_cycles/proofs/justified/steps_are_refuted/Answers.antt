@@ -2,9 +2,9 @@ use Rattle.std.proofs.Common.{All, subst}
 use Rattle.std.proofs.lemmas.List.Elements.{All-more}
 use Rattle.row_state.specs.declared.candidate.Candidate.{Candidate}
 use Rattle.row_state.specs.Start.{IsState}
-use Rattle.row_cycles.specs.Steps.{StepIsRefuted}
+use Rattle.row_cycles.specs.Steps.{LeftIsRefuted, StepIsRefuted}
 use Rattle.row_cycles.proofs.Loops.{all_end, no_from, not_both, yes_from}
-use Rattle.row_cycles.proofs.Refuted.{steps_all}
+use Rattle.row_cycles.proofs.Left.{each_left}
 use Rattle.row_cycles.proofs.justified.steps_are_refuted.Goals as goal
 
 pub returns-then-not-branch : goal.returns-then-not-branch
@@ -16,7 +16,10 @@ loop-next-preserved g c =
 
 pub returns : goal.returns
 returns g c =
-    yes_from (steps_all (g.B.RowBound.value c.args.grounds.now.bound.now) c.args.grounds.now.pins.now c.args.grounds.now.kinds.now c.args.earlier.now.lemmas.now c.args.lemma.now c.args.grounds.now.candidates.now
+    yes_from (each_left c.args.grounds.now.kinds.now c.args.lemma.now.state c.args.lemma.now.gaps
+    c.args.grounds.now.candidates.now
+    (LeftIsRefuted (g.B.RowBound.value c.args.grounds.now.bound.now) c.args.grounds.now.pins.now
+    c.args.grounds.now.kinds.now c.args.earlier.now.lemmas.now c.args.lemma.now)
     (subst (IsState c.args.grounds.now.kinds.now) c.requires.state c.requires.numbered.valid) c.requires.candidates
     (subst (All (λ (x : Candidate). StepIsRefuted (g.B.RowBound.value c.args.grounds.now.bound.now) c.args.grounds.now.pins.now c.args.grounds.now.kinds.now c.args.earlier.now.lemmas.now c.args.lemma.now x.step)) c.as_slice-next-items.ensures
     (all_end (λ (x : Candidate). StepIsRefuted (g.B.RowBound.value c.args.grounds.now.bound.now) c.args.grounds.now.pins.now c.args.grounds.now.kinds.now c.args.earlier.now.lemmas.now c.args.lemma.now x.step) c.as_slice-next-items.result.now c.loop-next.next-index c.loop-next-test.false c.loop-next.invariant)))

@@ -1,17 +1,18 @@
-use Rattle.std.proofs.Common.{◌≡◌, ap, arith, subst, sym, ◌∙◌}
+use Rattle.std.proofs.Common.{◌≡◌, ◌+◌, subst}
 use Rattle.row_state.specs.Completion.{cost_of}
 use Rattle.row_state.specs.Steps.{IsPossible, column_of}
-use Rattle.track_check.proofs.Failing.{dear_fails, step_decides}
-use Rattle.row_cycles.proofs.Loops.{not_both, yes_from}
+use Rattle.row_cycles.specs.Next.{IfLeft}
+use Rattle.row_cycles.proofs.Left.{one_decides}
+use Rattle.row_cycles.proofs.Loops.{yes_from}
+use Rattle.track_check.specs.Steps.{WaysFail}
 use Rattle.track_check.proofs.steps.step_fails.Goals as goal
 
-pub returns-then-not-allows : goal.returns-then-not-allows
-returns-then-not-allows g c = yes_from (λ left possible sum. absurd (not_both c.allows.result (c.allows.ensures.1 (subst (λ s. IsPossible c.args.grounds.now.kinds.now s c.args.next.now.step) (sym c.requires.state) possible)) c.if-not-allows.true))
-
-pub returns-then-lemma-cost : goal.returns-then-lemma-cost
-returns-then-lemma-cost g c =
-    let cost : c.cost-cost.result ≡ cost_of c.args.lemma.now.state (column_of c.args.grounds.now.kinds.now c.args.next.now.step) = c.cost-cost.ensures c.args.grounds.now.kinds.now c.requires.next ∙ ap (λ s. cost_of s (column_of c.args.grounds.now.kinds.now c.args.next.now.step)) c.requires.state in
-    yes_from (dear_fails (g.B.RowBound.value c.args.grounds.now.bound.now) c.args.grounds.now.pins.now c.args.grounds.now.limit c.args.grounds.now.kinds.now c.args.earlier.now.lemmas.now c.args.lemma.now c.args.next.now.step c.cost-cost.result cost c.if-lemma-cost.true)
+pub returns-in_default : goal.returns-in_default
+returns-in_default g c =
+    yes_from (λ left possible sum.
+    absurd (subst
+    (λ s. IfLeft c.args.grounds.now.kinds.now s c.args.lemma.now.gaps c.args.next.now.step (λ _. ⊥))
+    c.requires.state c.in_default.ensures.none left possible sum))
 
 pub ways_fail-requires : goal.ways_fail-requires
 ways_fail-requires g c = record {
@@ -20,11 +21,21 @@ ways_fail-requires g c = record {
   before = c.requires.before;
   next = c.requires.next;
   noted = c.requires.noted;
-  step = subst (λ s. IsPossible c.args.grounds.now.kinds.now s c.args.next.now.step) c.requires.state (c.allows.ensures.0 c.if-not-allows.false);
+  step =
+      subst (λ s. IsPossible c.args.grounds.now.kinds.now s c.args.next.now.step) c.requires.state
+      c.in-Some.ensures.step;
 }
 
 pub returns : goal.returns
 returns g c =
-    let cost : c.cost-cost.result ≡ cost_of c.args.lemma.now.state (column_of c.args.grounds.now.kinds.now c.args.next.now.step) = c.cost-cost.ensures c.args.grounds.now.kinds.now c.requires.next ∙ ap (λ s. cost_of s (column_of c.args.grounds.now.kinds.now c.args.next.now.step)) c.requires.state in
-    step_decides (g.B.RowBound.value c.args.grounds.now.bound.now) c.args.grounds.now.pins.now c.args.grounds.now.limit c.args.grounds.now.kinds.now c.args.earlier.now.lemmas.now c.args.lemma.now c.args.next.now.step c.cost-cost.result c.in_ok-fail.fail
-    (subst (λ s. IsPossible c.args.grounds.now.kinds.now s c.args.next.now.step) c.requires.state (c.allows.ensures.0 c.if-not-allows.false)) cost (omega (arith, c.if-lemma-cost.false)) c.in_ok-fail.ensures
+    one_decides c.args.grounds.now.kinds.now c.args.lemma.now.state c.args.lemma.now.gaps c.args.next.now.step
+    c.in-Some.left
+    (WaysFail (g.B.RowBound.value c.args.grounds.now.bound.now) c.args.grounds.now.pins.now
+    c.args.grounds.now.limit c.args.grounds.now.kinds.now c.args.earlier.now.lemmas.now c.args.lemma.now
+    c.args.next.now.step)
+    c.in_ok-fail.fail
+    (subst (λ s. IsPossible c.args.grounds.now.kinds.now s c.args.next.now.step) c.requires.state
+    c.in-Some.ensures.step)
+    (subst
+    (λ s. cost_of s (column_of c.args.grounds.now.kinds.now c.args.next.now.step) + c.in-Some.left
+    ≡ c.args.lemma.now.gaps) c.requires.state c.in-Some.ensures.left) c.in_ok-fail.ensures

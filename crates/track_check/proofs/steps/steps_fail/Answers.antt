@@ -2,8 +2,8 @@ use Rattle.std.proofs.Common.{All, subst}
 use Rattle.std.proofs.lemmas.List.Elements.{All-more}
 use Rattle.row_state.specs.declared.candidate.Candidate.{Candidate}
 use Rattle.row_state.specs.Start.{IsState}
-use Rattle.track_check.specs.Steps.{StepFailsListed}
-use Rattle.track_check.proofs.Failing.{steps_all}
+use Rattle.track_check.specs.Steps.{StepFailsListed, WaysFail}
+use Rattle.row_cycles.proofs.Left.{each_left}
 use Rattle.row_cycles.proofs.Loops.{all_end, no_from, not_both, yes_from}
 use Rattle.track_check.proofs.steps.steps_fail.Goals as goal
 
@@ -16,7 +16,10 @@ loop-next-preserved g c =
 
 pub returns : goal.returns
 returns g c =
-    yes_from (steps_all (g.B.RowBound.value c.args.grounds.now.bound.now) c.args.grounds.now.pins.now c.args.grounds.now.limit c.args.grounds.now.kinds.now c.args.earlier.now.lemmas.now c.args.lemma.now c.args.grounds.now.candidates.now
+    yes_from (each_left c.args.grounds.now.kinds.now c.args.lemma.now.state c.args.lemma.now.gaps
+    c.args.grounds.now.candidates.now
+    (WaysFail (g.B.RowBound.value c.args.grounds.now.bound.now) c.args.grounds.now.pins.now
+    c.args.grounds.now.limit c.args.grounds.now.kinds.now c.args.earlier.now.lemmas.now c.args.lemma.now)
     (subst (IsState c.args.grounds.now.kinds.now) c.requires.state c.requires.numbered.valid) c.requires.candidates
     (subst (All (λ (x : Candidate). StepFailsListed (g.B.RowBound.value c.args.grounds.now.bound.now) c.args.grounds.now.pins.now c.args.grounds.now.limit c.args.grounds.now.kinds.now c.args.earlier.now.lemmas.now c.args.lemma.now x.step)) c.as_slice-next-items.ensures
     (all_end (λ (x : Candidate). StepFailsListed (g.B.RowBound.value c.args.grounds.now.bound.now) c.args.grounds.now.pins.now c.args.grounds.now.limit c.args.grounds.now.kinds.now c.args.earlier.now.lemmas.now c.args.lemma.now x.step) c.as_slice-next-items.result.now c.loop-next.next-index c.loop-next-test.false c.loop-next.invariant)))
