@@ -6,3 +6,17 @@ pub mod Leveled
 pub mod Lines
 pub mod Refusals
 pub mod Sound
+pub mod Rules
+pub mod Apart
+pub mod Closed
+pub mod Counts
+pub mod Edges
+pub mod Ends
+pub mod Euler
+pub mod Joins
+pub mod Law
+pub mod Lists
+pub mod Rowed
+pub mod Steps
+pub mod Together
+pub mod Turned

@@ -1,5 +1,5 @@
--- What the lemmas and the row of a certificate come to, and that none is accepted and refused.
-use Rattle.std.specs.Prelude.{ℕ, ◌≡◌, ◌≢◌, List, [], Option, Some, None}
+-- What the lemmas and the row of a certificate come to, and that none is accepted and refused for a fault.
+use Rattle.std.specs.Prelude.{ℕ, ◌≡◌, ◌≢◌, List, [], Option, Some, None, Result, Ok, Err, IfErr}
 use Rattle.std.proofs.Common.{refl, sym, ap, subst, arith, ◌∙◌}
 use Rattle.std.proofs.lemmas.Option.{none-some}
 use Rattle.cell_num.specs.declared.finger.Fingers.{Fingers}
@@ -11,12 +11,12 @@ use Rattle.trail_state.specs.declared.level.Level.{Level}
 use Rattle.trail_log.specs.declared.trails.TrailCertificate.{TrailCertificate}
 use Rattle.trail_check.specs.declared.refusal.TrailRefusal.{TrailRefusal}
 use Rattle.trail_check.specs.declared.refusal.TrailRefusal.TheVariants as refusal
-use Rattle.trail_check.specs.Accepted.{IsAccepted, first_unproved, least_gaps}
-use Rattle.trail_check.specs.Gates.{AreGates, first_with_many}
+use Rattle.trail_check.specs.Accepted.{IsAccepted, IsNeverAccepted, first_unproved, least_gaps}
+use Rattle.trail_check.specs.Gates.{AreGates, HasFewWays}
 use Rattle.trail_check.specs.Justified.{ends_proved, gaps_proved, unproved}
 use Rattle.trail_check.specs.Leveled.{levels_of}
 use Rattle.trail_check.specs.Listed.{lemmas_listed}
-use Rattle.trail_check.specs.Refusal.{LemmasRefused, Refuses, RowRefused}
+use Rattle.trail_check.specs.Refusal.{IsFault, LemmasRefused, Refuses, RowRefused}
 
 -- ---- by the levels of the order
 
@@ -31,10 +31,9 @@ gaps_are : (f : Fingers) (trails : TrailCertificate) (levels : List Level) (ends
 gaps_are f trails levels ends are is =
     ap gaps_proved (is ∙ ap (λ (ls : List Level). ends_proved (lemmas_listed ls trails.lemmas)) are)
 
-pub accepts : (f : Fingers) (trails : TrailCertificate) (levels : List Level) (ends gaps : ℕ) → AreGates f trails → first_with_many f trails.order ≡ None → levels ≡ levels_of f trails.order → unproved levels [] 5 (lemmas_listed levels trails.lemmas) ≡ None → ends ≡ ends_proved (lemmas_listed levels trails.lemmas) → WithKinds f (λ (k : Kinds). BestPasses k f (gaps_proved ends) trails.best gaps) → IsAccepted f trails gaps
-accepts f trails levels ends gaps gates few are justified is passes = record {
+pub accepts : (f : Fingers) (trails : TrailCertificate) (levels : List Level) (ends gaps : ℕ) → AreGates f trails → levels ≡ levels_of f trails.order → unproved levels [] 5 (lemmas_listed levels trails.lemmas) ≡ None → ends ≡ ends_proved (lemmas_listed levels trails.lemmas) → WithKinds f (λ (k : Kinds). BestPasses k f (gaps_proved ends) trails.best gaps) → IsAccepted f trails gaps
+accepts f trails levels ends gaps gates are justified is passes = record {
   gates = gates;
-  few_ways = few;
   justified = all_justified f trails levels are justified;
   passes = subst (λ (least : ℕ). WithKinds f (λ (k : Kinds). BestPasses k f least trails.best gaps)) (gaps_are f trails levels ends are is) passes;
 }
@@ -45,7 +44,7 @@ first_refused : (f : Fingers) (trails : TrailCertificate) (levels : List Level) 
 first_refused f trails levels are cause h =
     by_levels (λ (ls : List Level). LemmasRefused (unproved ls [] 5 (lemmas_listed ls trails.lemmas)) cause) levels (levels_of f trails.order) are h
 
-lemmas_cause : (f : Fingers) (trails : TrailCertificate) (cause : TrailRefusal) → AreGates f trails → first_with_many f trails.order ≡ None → LemmasRefused (first_unproved f trails) cause → Refuses f trails cause
+lemmas_cause : (f : Fingers) (trails : TrailCertificate) (cause : TrailRefusal) → AreGates f trails → HasFewWays f trails → LemmasRefused (first_unproved f trails) cause → Refuses f trails cause
 lemmas_cause f trails refusal.Gates gates few h = absurd h
 lemmas_cause f trails (refusal.Choices gate) gates few h = absurd h
 lemmas_cause f trails (refusal.Unproved line) gates few h = (gates, few, h)
@@ -55,10 +54,10 @@ lemmas_cause f trails (refusal.Gaps said counted) gates few h = absurd h
 lemmas_cause f trails (refusal.NotLeast best said) gates few h = absurd h
 lemmas_cause f trails refusal.NoMemory gates few h = tt
 
-pub lemmas_refuse : (f : Fingers) (trails : TrailCertificate) (levels : List Level) (cause : TrailRefusal) → AreGates f trails → first_with_many f trails.order ≡ None → levels ≡ levels_of f trails.order → LemmasRefused (unproved levels [] 5 (lemmas_listed levels trails.lemmas)) cause → Refuses f trails cause
+pub lemmas_refuse : (f : Fingers) (trails : TrailCertificate) (levels : List Level) (cause : TrailRefusal) → AreGates f trails → HasFewWays f trails → levels ≡ levels_of f trails.order → LemmasRefused (unproved levels [] 5 (lemmas_listed levels trails.lemmas)) cause → Refuses f trails cause
 lemmas_refuse f trails levels cause gates few are h = lemmas_cause f trails cause gates few (first_refused f trails levels are cause h)
 
-row_cause : (f : Fingers) (trails : TrailCertificate) (cause : TrailRefusal) → AreGates f trails → first_with_many f trails.order ≡ None → first_unproved f trails ≡ None → WithKinds f (λ (k : Kinds). RowRefused k f (least_gaps f trails) trails.best cause) → Refuses f trails cause
+row_cause : (f : Fingers) (trails : TrailCertificate) (cause : TrailRefusal) → AreGates f trails → HasFewWays f trails → first_unproved f trails ≡ None → WithKinds f (λ (k : Kinds). RowRefused k f (least_gaps f trails) trails.best cause) → Refuses f trails cause
 row_cause f trails refusal.Gates gates few justified (k, of_k, some_k, h) = absurd h
 row_cause f trails (refusal.Choices gate) gates few justified (k, of_k, some_k, h) = absurd h
 row_cause f trails (refusal.Unproved line) gates few justified (k, of_k, some_k, h) = absurd h
@@ -68,7 +67,7 @@ row_cause f trails (refusal.Gaps said counted) gates few justified h = (gates, f
 row_cause f trails (refusal.NotLeast best said) gates few justified h = (gates, few, justified, h)
 row_cause f trails refusal.NoMemory gates few justified h = tt
 
-pub row_refuses : (f : Fingers) (trails : TrailCertificate) (levels : List Level) (ends : ℕ) (cause : TrailRefusal) → AreGates f trails → first_with_many f trails.order ≡ None → levels ≡ levels_of f trails.order → unproved levels [] 5 (lemmas_listed levels trails.lemmas) ≡ None → ends ≡ ends_proved (lemmas_listed levels trails.lemmas) → WithKinds f (λ (k : Kinds). RowRefused k f (gaps_proved ends) trails.best cause) → Refuses f trails cause
+pub row_refuses : (f : Fingers) (trails : TrailCertificate) (levels : List Level) (ends : ℕ) (cause : TrailRefusal) → AreGates f trails → HasFewWays f trails → levels ≡ levels_of f trails.order → unproved levels [] 5 (lemmas_listed levels trails.lemmas) ≡ None → ends ≡ ends_proved (lemmas_listed levels trails.lemmas) → WithKinds f (λ (k : Kinds). RowRefused k f (gaps_proved ends) trails.best cause) → Refuses f trails cause
 row_refuses f trails levels ends cause gates few are justified is h =
     row_cause f trails cause gates few (all_justified f trails levels are justified)
     (subst (λ (least : ℕ). WithKinds f (λ (k : Kinds). RowRefused k f least trails.best cause)) (gaps_are f trails levels ends are is) h)
@@ -90,15 +89,35 @@ rows_not_both : (f : Fingers) (least : ℕ) (row : Option Best) (gaps : ℕ) (ca
 rows_not_both f least row gaps cause (j, of_j, some_j, passes) (k, of_k, some_k, h) other =
     row_not_both k f least row gaps cause (subst (λ (i : Kinds). BestPasses i f least row gaps) (same_kinds f j k of_j some_j of_k some_k) passes) h other
 
--- no certificate is accepted that is refused for another cause than memory
-pub not_both : (f : Fingers) (trails : TrailCertificate) (gaps : ℕ) (cause : TrailRefusal) → IsAccepted f trails gaps → Refuses f trails cause → cause ≢ refusal.NoMemory → ⊥
-not_both f trails gaps refusal.Gates is h other = h is.gates
-not_both f trails gaps (refusal.Choices gate) is (gates, many) other = none-some gate (sym is.few_ways ∙ many)
-not_both f trails gaps (refusal.Unproved line) is (gates, few, first) other = none-some line (sym is.justified ∙ first)
-not_both f trails gaps (refusal.NoRow best) is (gates, few, justified, h) other = rows_not_both f (least_gaps f trails) trails.best gaps (refusal.NoRow best) is.passes h other
-not_both f trails gaps refusal.NotArrangement is (gates, few, justified, h) other = rows_not_both f (least_gaps f trails) trails.best gaps refusal.NotArrangement is.passes h other
-not_both f trails gaps (refusal.Gaps said counted) is (gates, few, justified, h) other =
-    rows_not_both f (least_gaps f trails) trails.best gaps (refusal.Gaps said counted) is.passes h other
-not_both f trails gaps (refusal.NotLeast best said) is (gates, few, justified, h) other =
-    rows_not_both f (least_gaps f trails) trails.best gaps (refusal.NotLeast best said) is.passes h other
-not_both f trails gaps refusal.NoMemory is h other = other refl
+-- a fault is not memory
+no_memory : (cause : TrailRefusal) → IsFault cause → cause ≢ refusal.NoMemory
+no_memory refusal.Gates fault = λ e. cc
+no_memory (refusal.Choices gate) fault = absurd fault
+no_memory (refusal.Unproved line) fault = λ e. cc
+no_memory (refusal.NoRow best) fault = λ e. cc
+no_memory refusal.NotArrangement fault = λ e. cc
+no_memory (refusal.Gaps said counted) fault = λ e. cc
+no_memory (refusal.NotLeast best said) fault = λ e. cc
+no_memory refusal.NoMemory fault = absurd fault
+
+-- no certificate is accepted that is refused for a fault
+not_both : (f : Fingers) (trails : TrailCertificate) (gaps : ℕ) (cause : TrailRefusal) → IsAccepted f trails gaps → Refuses f trails cause → IsFault cause → ⊥
+not_both f trails gaps refusal.Gates is h fault = h is.gates
+not_both f trails gaps (refusal.Choices gate) is h fault = fault
+not_both f trails gaps (refusal.Unproved line) is (gates, few, first) fault = none-some line (sym is.justified ∙ first)
+not_both f trails gaps (refusal.NoRow best) is (gates, few, justified, h) fault =
+    rows_not_both f (least_gaps f trails) trails.best gaps (refusal.NoRow best) is.passes h (λ e. cc)
+not_both f trails gaps refusal.NotArrangement is (gates, few, justified, h) fault =
+    rows_not_both f (least_gaps f trails) trails.best gaps refusal.NotArrangement is.passes h (λ e. cc)
+not_both f trails gaps (refusal.Gaps said counted) is (gates, few, justified, h) fault =
+    rows_not_both f (least_gaps f trails) trails.best gaps (refusal.Gaps said counted) is.passes h (λ e. cc)
+not_both f trails gaps (refusal.NotLeast best said) is (gates, few, justified, h) fault =
+    rows_not_both f (least_gaps f trails) trails.best gaps (refusal.NotLeast best said) is.passes h (λ e. cc)
+not_both f trails gaps refusal.NoMemory is h fault = fault
+
+pub faults_never : (f : Fingers) (trails : TrailCertificate) (r : Result ℕ TrailRefusal) → IfErr r (λ cause. cause ≢ refusal.NoMemory → Refuses f trails cause) → IfErr r (λ cause. IsFault cause → IsNeverAccepted f trails)
+faults_never f trails (Ok gaps) h = tt
+faults_never f trails (Err cause) h = λ fault gaps is. not_both f trails gaps cause is (h (no_memory cause fault)) fault
+
+pub gates_never : (f : Fingers) (trails : TrailCertificate) → (AreGates f trails → ⊥) → IsNeverAccepted f trails
+gates_never f trails none gaps is = none is.gates

@@ -8,7 +8,7 @@ use Rattle.row_state.specs.declared.kind.Kinds.{Kinds}
 use Rattle.log_check.specs.Accepted.{BestPasses, WithKinds}
 use Rattle.trail_log.specs.declared.trails.TrailCertificate.{TrailCertificate}
 use Rattle.trail_check.specs.declared.lemma.TrailLemma.{TrailLemma}
-use Rattle.trail_check.specs.Gates.{AreGates, first_with_many}
+use Rattle.trail_check.specs.Gates.{AreGates}
 use Rattle.trail_check.specs.Justified.{IsTrueOf, ends_proved, gaps_proved, unproved}
 use Rattle.trail_check.specs.Leveled.{levels_of}
 use Rattle.trail_check.specs.Listed.{lemmas_listed}
@@ -28,12 +28,15 @@ AreTrueOf f trails = All (IsTrueOf (levels_of f trails.order)) (lemmas_of f trai
 abbrev pub least_gaps : Fingers → TrailCertificate → ℕ
 least_gaps f trails = gaps_proved (ends_proved (lemmas_of f trails))
 
--- the row has no more gaps than the lemmas, each justified, prove of every row
+-- The row has no more gaps than the lemmas, each justified, prove of every row. How many ways a gate has is not asked.
 pub record IsAccepted (f : Fingers) (trails : TrailCertificate) (gaps : ℕ) : Type 0 where
   pub gates : AreGates f trails
-  pub few_ways : first_with_many f trails.order ≡ None
   pub justified : first_unproved f trails ≡ None
   pub passes : WithKinds f (λ (k : Kinds). BestPasses k f (least_gaps f trails) trails.best gaps)
+
+-- accepted with no number of gaps
+abbrev pub IsNeverAccepted : Fingers → TrailCertificate → Type 0
+IsNeverAccepted f trails = (gaps : ℕ) → IsAccepted f trails gaps → ⊥
 
 -- no arrangement of the fingers has fewer gaps
 abbrev pub IsLow : Fingers → ℕ → Type 0

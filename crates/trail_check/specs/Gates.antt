@@ -1,5 +1,5 @@
 -- What is asked of the gates of a certificate before its lemmas are looked at.
-use Rattle.std.specs.Prelude.{ℕ, ◌≢◌, Bool, List, Option, Contains, find}
+use Rattle.std.specs.Prelude.{ℕ, ◌≡◌, ◌≢◌, Bool, List, Option, None, Contains, find}
 use Rattle.cell_num.specs.declared.net.NetNo.{NetNo}
 use Rattle.cell_num.specs.declared.finger.Fingers.{Fingers}
 use Rattle.cell_num.specs.Fingers.{on_gate}
@@ -23,3 +23,7 @@ has_many_ways f gate = has_long_front 65536 f gate.0
 
 abbrev pub first_with_many : Fingers → List NetNo → Option NetNo
 first_with_many f order = find (has_many_ways f) order
+
+-- No gate has too many ways for a checker to list. What a certificate proves does not depend on this.
+abbrev pub HasFewWays : Fingers → TrailCertificate → Type 0
+HasFewWays f trails = first_with_many f trails.order ≡ None

@@ -10,7 +10,7 @@ use Rattle.trail_log.specs.declared.trails.TrailCertificate.{TrailCertificate}
 use Rattle.trail_check.specs.declared.refusal.TrailRefusal.{TrailRefusal}
 use Rattle.trail_check.specs.declared.refusal.TrailRefusal.TheVariants as refusal
 use Rattle.trail_check.specs.Accepted.{first_unproved, least_gaps}
-use Rattle.trail_check.specs.Gates.{AreGates, first_with_many}
+use Rattle.trail_check.specs.Gates.{AreGates, HasFewWays, first_with_many}
 
 -- the row is refused as that of a log whose lemmas prove so many gaps
 abbrev pub RowRefused : Kinds → Fingers → ℕ → Option Best → TrailRefusal → Type 0
@@ -32,14 +32,21 @@ LemmasRefused first _ = ⊥
 abbrev pub Refuses : Fingers → TrailCertificate → TrailRefusal → Type 0
 Refuses f trails refusal.Gates = AreGates f trails → ⊥
 Refuses f trails (refusal.Choices gate) = AreGates f trails × (first_with_many f trails.order ≡ Some gate)
-Refuses f trails (refusal.Unproved line) = AreGates f trails × (first_with_many f trails.order ≡ None)
+Refuses f trails (refusal.Unproved line) = AreGates f trails × HasFewWays f trails
     × (first_unproved f trails ≡ Some line)
 Refuses f trails refusal.NoMemory = Unit {0}
 Refuses f trails cause =
     AreGates f trails
-    × (first_with_many f trails.order ≡ None)
+    × HasFewWays f trails
     × (first_unproved f trails ≡ None)
     × WithKinds f (λ (k : Kinds). RowRefused k f (least_gaps f trails) trails.best cause)
+
+-- A fault of the certificate itself. The other two causes are limits of a checker: one with more memory and time may
+-- accept it.
+abbrev pub IsFault : TrailRefusal → Type 0
+IsFault (refusal.Choices gate) = ⊥
+IsFault refusal.NoMemory = ⊥
+IsFault _ = Unit {0}
 
 -- so it is of the number of gaps that the lemmas prove, where the refusal tells it
 abbrev pub Proves : (ℕ → Type 0) → TrailRefusal → Type 0

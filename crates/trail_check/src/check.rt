@@ -1,8 +1,8 @@
-ghost use Rattle.std.specs.Prelude.{◌≡◌, ◌≢◌, ◌≤◌, IfErr, IfOk, None, length, ℕ};
+ghost use Rattle.std.specs.Prelude.{◌≢◌, ◌≤◌, IfErr, IfOk, length, ℕ};
 ghost use Rattle.cell_num.specs.Fingers.{AreFingers};
-ghost use Rattle.trail_check.specs.Accepted.{AreTrueOf, IsAccepted, IsLow};
-ghost use Rattle.trail_check.specs.Gates.{AreGates, first_with_many};
-ghost use Rattle.trail_check.specs.Refusal.{Proves, Refuses};
+ghost use Rattle.trail_check.specs.Accepted.{AreTrueOf, IsAccepted, IsLow, IsNeverAccepted};
+ghost use Rattle.trail_check.specs.Gates.{AreGates, HasFewWays};
+ghost use Rattle.trail_check.specs.Refusal.{IsFault, Proves, Refuses};
 ghost use Rattle.trail_check.specs.declared.refusal.TrailRefusal.TheVariants as refusal;
 
 use crate::gates::are_gates;
@@ -13,7 +13,7 @@ use std::alloc::Global;
 use trail_log::TrailCertificate;
 
 // The lemmas and the row, where the gates are as asked.
-#[tactic(auto, using(crate::proofs::Refusals::accepts, crate::proofs::Refusals::lemmas_refuse, crate::proofs::Refusals::row_refuses, crate::proofs::Least::row_low, crate::proofs::Least::refusal_low, crate::proofs::Least::lemmas_low))]
+#[tactic(auto, using(crate::proofs::Rules::check_listed_rules))]
 fn check_listed(
     alloc: Global,
     fingers: &Fingers,
@@ -21,10 +21,11 @@ fn check_listed(
 ) -> Result<u32, TrailRefusal>
     requires fingers { AreFingers fingers.now }
     requires gates { AreGates fingers.now trails.now }
-    requires ways { first_with_many fingers.now trails.now.order ≡ None }
+    requires few_ways { HasFewWays fingers.now trails.now }
     requires few { length trails.now.lemmas ≤ MOST_BYTES }
     ensures accepted { IfOk result (IsAccepted fingers.now trails.now) }
     ensures refused { IfErr result (λ cause. cause ≢ refusal.NoMemory → Refuses fingers.now trails.now cause) }
+    ensures few_ways { IfOk result (λ _. HasFewWays fingers.now trails.now) }
     ensures least { IfOk result (IsLow fingers.now) }
     ensures low { IfErr result (Proves (IsLow fingers.now)) }
 {
@@ -34,8 +35,9 @@ fn check_listed(
 }
 
 /// The gaps of the row that the certificate lists, where it is accepted: no arrangement of the fingers has fewer. Else
-/// the first cause to refuse it. Each lemma of an accepted certificate is true. At most [`MOST_BYTES`] lemmas.
-#[tactic(auto, using(crate::proofs::Least::accepted_low, crate::proofs::Least::accepted_true))]
+/// the first cause to refuse it. A gate with too many ways is no fault of the certificate, nor is a lack of memory.
+/// Each lemma of an accepted certificate is true. At most [`MOST_BYTES`] lemmas.
+#[tactic(auto, using(crate::proofs::Rules::check_trails_rules))]
 pub fn check_trails(
     alloc: Global,
     fingers: &Fingers,
@@ -45,6 +47,8 @@ pub fn check_trails(
     requires few { length trails.now.lemmas ≤ MOST_BYTES }
     ensures accepted { IfOk result (IsAccepted fingers.now trails.now) }
     ensures refused { IfErr result (λ cause. cause ≢ refusal.NoMemory → Refuses fingers.now trails.now cause) }
+    ensures few_ways { IfOk result (λ _. HasFewWays fingers.now trails.now) }
+    ensures never { IfErr result (λ cause. IsFault cause → IsNeverAccepted fingers.now trails.now) }
     ensures least { IfOk result (IsLow fingers.now) }
     ensures low { IfErr result (Proves (IsLow fingers.now)) }
     ensures law { (gaps : ℕ) → IsAccepted fingers.now trails.now gaps → IsLow fingers.now gaps }

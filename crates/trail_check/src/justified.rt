@@ -80,7 +80,7 @@ fn justifies(
 /// The ends that the lemmas of a certificate prove of every row, where each is justified by those before it; else the
 /// line of the first that is not; the first lemma stands at line 5 of the text. The levels are those of the order: at
 /// most 65,536 nodes each.
-#[tactic(auto, using(crate::proofs::Lines::first_fails, crate::proofs::Lines::one_more, crate::proofs::Lines::all_proved, crate::proofs::Lines::known_more))]
+#[tactic(auto, using(crate::proofs::Rules::check_lemmas_rules))]
 pub fn check_lemmas(
     alloc: Global,
     levels: &[Level],

@@ -25,11 +25,11 @@ use Rattle.row_search.proofs.Least.{further_le}
 use Rattle.trail_log.specs.Fits.{TrailsFit}
 use Rattle.trail_check.specs.Accepted.{IsLow, least_gaps}
 use Rattle.trail_search.specs.declared.proof.Proof.{Proof}
-use Rattle.trail_search.specs.Proof.{HasReached, IsMost, IsProof}
+use Rattle.trail_search.specs.Proof.{HasReached, IsMost, IsProof, gate_units, lemma_units}
 use Rattle.trail_search.proofs.Proved.{ends_gaps}
 use Rattle.trail_search.specs.declared.first.ListedRow.{ListedRow}
 use Rattle.trail_search.specs.Searched.{AreSearched}
-use Rattle.trail_search.specs.Ended.{IsCertified, IsTrailFound, IsTrailSpent, row_nodes}
+use Rattle.trail_search.specs.Ended.{IsCertified, IsTrailFound, IsTrailSpent, row_units}
 use Rattle.trail_search.specs.First.{IsFirstRow, with_best}
 use Rattle.trail_search.specs.Visit.{IsFirstOf}
 
@@ -86,10 +86,10 @@ certified k f proof steps of_f kinds p h =
     record {
       accepted = record {
         gates = record { order = p.gates.order; filled = p.gates.filled };
-        few_ways = p.few_ways;
         justified = p.justified;
         passes = (k, of_f, kinds, row_passes k f proof.gaps (least_gaps f proof.trails) steps of_f kinds p.least (omega (arith, p.gaps)) h);
       };
+      few_ways = p.few_ways;
       lists = listed_row k steps;
       fits = record {
         fill = fits.fill;
@@ -100,7 +100,7 @@ certified k f proof steps of_f kinds p h =
       };
     }
 
-pub found_is : (k : Kinds) (f : Fingers) (budget : ℕ) (proof : Proof) (listed : ListedRow) → AreKinds f k → AreSomeKinds k → IsProof f proof → IsFirstRow k proof.gaps listed → length proof.trails.lemmas ≤ budget → IsTrailFound f budget listed.row (with_best proof.trails listed.best)
+pub found_is : (k : Kinds) (f : Fingers) (budget : ℕ) (proof : Proof) (listed : ListedRow) → AreKinds f k → AreSomeKinds k → IsProof f proof → IsFirstRow k proof.gaps listed → lemma_units f proof.trails ≤ budget → IsTrailFound f budget listed.row (with_best proof.trails listed.best)
 found_is k f budget proof listed of_f kinds p h kept =
     subst (λ (z : ListedRow). IsTrailFound f budget z.row (with_best proof.trails z.best)) (sym h.is)
     (record {
@@ -111,7 +111,7 @@ found_is k f budget proof listed of_f kinds p h kept =
       kept = kept;
     })
 
-pub spent_is : (k : Kinds) (f : Fingers) (budget : ℕ) (proof : Proof) → AreKinds f k → AreSomeKinds k → IsProof f proof → length proof.trails.lemmas ≤ budget → (budget ≤ length proof.trails.lemmas + length proof.trails.order) ⊎ IsMost f proof.trails.order proof.gaps → ((other : List Column) → IsArrangement other f → proof.gaps < gaps_of other) ⊎ AreSearched k (proof.gaps + 1) (row_nodes budget proof.trails) (columns_of f) → IsTrailSpent f budget proof.trails proof.gaps
+pub spent_is : (k : Kinds) (f : Fingers) (budget : ℕ) (proof : Proof) → AreKinds f k → AreSomeKinds k → IsProof f proof → lemma_units f proof.trails ≤ budget → (budget ≤ lemma_units f proof.trails + gate_units f proof.trails.order) ⊎ IsMost f proof.trails.order proof.gaps → ((other : List Column) → IsArrangement other f → proof.gaps < gaps_of other) ⊎ AreSearched k (proof.gaps + 1) (row_units f budget proof.trails) (columns_of f) → IsTrailSpent f budget proof.trails proof.gaps
 spent_is k f budget proof of_f kinds p kept work rows =
     record {
       lists_none = subst IsNone (sym p.rowless) refl;

@@ -28,7 +28,7 @@ ends_fewer [] s a b h few = omega (arith, h, few)
 ends_fewer (l ∷ ls) s a b h few = λ c within.
     ends_fewer ls (state_after l.now l.next s c) (a - ends_after l.now l.next s c) (b - ends_after l.now l.next s c) (h c within) (omega (arith, few))
 
-level_at : (levels : List Level) (done : ℕ) (level : Level) → slice_get levels done ≡ Some level → drop done levels ≡ level ∷ drop (done + 1) levels
+pub level_at : (levels : List Level) (done : ℕ) (level : Level) → slice_get levels done ≡ Some level → drop done levels ≡ level ∷ drop (done + 1) levels
 level_at [] done level h = absurd (none-some level h)
 level_at (l ∷ ls) zero level h = ap (λ (x : Level). x ∷ ls) (same_Some l level h)
 level_at (l ∷ ls) (suc done) level h = let e : suc done + 1 ≡ suc (done + 1) = omega arith in rw e (level_at ls done level h)

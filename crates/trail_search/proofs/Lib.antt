@@ -14,3 +14,4 @@ pub mod Proved
 pub mod Reached
 pub mod States
 pub mod Tied
+pub mod Rules

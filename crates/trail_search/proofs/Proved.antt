@@ -31,7 +31,7 @@ use Rattle.bound_log.specs.Fits.{BestFits}
 use Rattle.trail_log.specs.Order.{increases, net_rank}
 use Rattle.trail_log.specs.Fits.{LemmaFits, NetFits}
 use Rattle.trail_check.specs.declared.lemma.TrailLemma.{TrailLemma}
-use Rattle.trail_check.specs.Gates.{first_with_many, has_many_ways}
+use Rattle.trail_check.specs.Gates.{HasFewWays, first_with_many, has_many_ways}
 use Rattle.trail_check.specs.Indexed.{IsIndexOf}
 use Rattle.trail_check.specs.Justified.{ends_proved, gaps_proved, unproved}
 use Rattle.trail_check.specs.Leveled.{levels_of}
@@ -42,11 +42,13 @@ use Rattle.trail_search.specs.declared.kept.Kept.{Kept}
 use Rattle.trail_search.specs.declared.proof.Proof.{Proof}
 use Rattle.trail_search.specs.Line.{AllNodes, AreNodes, IsNode}
 use Rattle.trail_search.specs.Proof.{AttemptsOnce, IsProof, uneven_gates}
-use Rattle.trail_search.specs.Reached.{AreReached}
+use Rattle.trail_search.specs.Reached.{AreReached, IsWithin}
 use Rattle.trail_search.specs.Search.{AreChained, AreKept, AreNew, AreTied}
+use Rattle.trail_search.specs.Units.{listed_units, path_units, units_of}
 use Rattle.trail_search.proofs.Finds.{found_is}
 use Rattle.trail_search.proofs.Lines.{level_nodes}
 use Rattle.trail_search.proofs.New.{new_none}
+use Rattle.trail_search.proofs.Tied.{units_none}
 use Rattle.trail_search.proofs.Orders.{fill_fits, fill_has, fill_increases, order_fits, order_short, range_ascends}
 
 -- ---- levels
@@ -88,7 +90,7 @@ level_nodes_of f (g ∷ gs) [] ok are = absurd are
 level_nodes_of f (g ∷ gs) (l ∷ ls) ok (first, rest) =
     All-cons (λ (level : Level). AreNodes f.nets level.now) l ls (subst (AreNodes f.nets) (sym first.now) (open_are_nodes f (g ∷ gs) ok)) (level_nodes_of f gs ls ok rest)
 
-pub as_many : (f : Fingers) (order : List NetNo) (levels : List Level) → AreLevels f order levels → length levels ≡ length order
+as_many : (f : Fingers) (order : List NetNo) (levels : List Level) → AreLevels f order levels → length levels ≡ length order
 as_many f [] [] are = refl
 as_many f [] (l ∷ ls) are = absurd are
 as_many f (g ∷ gs) [] are = absurd are
@@ -149,7 +151,7 @@ ends_gaps f order gaps ok is ends row arranges =
 pub gate_crowded : (f : Fingers) (order : List NetNo) (o : Option NetNo) (gate : NetNo) → o ≡ first_with_many f order → o ≡ Some gate → has_many_ways f gate ≡ true
 gate_crowded f order o gate is some = (found_is (has_many_ways f) order gate (sym is ∙ some)).passes
 
-pub is_proof : (f : Fingers) (proof : Proof) (levels : List Level) (kept : Kept) → AreFingers f → IsOrder f proof.trails.order → first_with_many f proof.trails.order ≡ None → AreLevels f proof.trails.order levels → levels ≡ levels_of f proof.trails.order → AreKept levels kept → AreReached levels (gaps_proved (ends_proved kept.lemmas)) kept.lemmas → proof.trails.fill ≡ uneven_gates f → proof.trails.lemmas ≡ kept.lines → proof.trails.best ≡ None → proof.gaps ≡ gaps_proved (ends_proved kept.lemmas) → IsProof f proof
+pub is_proof : (f : Fingers) (proof : Proof) (levels : List Level) (kept : Kept) → AreFingers f → IsOrder f proof.trails.order → HasFewWays f proof.trails → AreLevels f proof.trails.order levels → levels ≡ levels_of f proof.trails.order → AreKept levels kept → AreReached levels (gaps_proved (ends_proved kept.lemmas)) kept.lemmas → proof.trails.fill ≡ uneven_gates f → proof.trails.lemmas ≡ kept.lines → proof.trails.best ≡ None → proof.gaps ≡ gaps_proved (ends_proved kept.lemmas) → IsProof f proof
 is_proof f proof levels kept ok is few are same h reached fill lines none gaps =
     let listed : lemmas_listed (levels_of f proof.trails.order) proof.trails.lemmas ≡ kept.lemmas = ap (λ (ls : List Level). lemmas_listed ls proof.trails.lemmas) (sym same) ∙ ap (lemmas_listed levels) lines ∙ h.listed in
     record {
@@ -178,12 +180,45 @@ refuted f order levels kept limit gaps ok is are h e more row arranges =
     below : (a b : ℕ) → nat_lt a b ≡ true → a < b
     below a b l = grind (arith, l)
 
--- the nodes of a search that began without lemmas went for those that it kept
-pub attempted : (f : Fingers) (order : List NetNo) (levels : List Level) (before after : Kept) (limit left left_after others : ℕ) → IsOrder f order → AreLevels f order levels → levels ≡ levels_of f order → before.lemmas ≡ [] → AreKept levels after → AreReached levels limit after.lemmas → others ≤ length levels + 1 → AreTied before after left left_after others → AttemptsOnce f limit left left_after
-attempted f order levels before after limit left left_after others is are same none h reached few tied =
+-- ---- attempts
+
+-- the choices of all gates were listed
+all_listed : (f : Fingers) (order : List NetNo) (levels : List Level) → levels ≡ levels_of f order → first_with_many f order ≡ None → listed_units (first_with_many f order) (levels_of f order) ≡ listed_units None levels
+all_listed f order levels same few =
+    ap (λ (o : Option NetNo). listed_units o (levels_of f order)) few ∙ ap (λ (ls : List Level). listed_units None ls) (sym same)
+
+-- the units of a search that began without lemmas went for a list of the choices, and for the lemmas that it kept
+pub attempted : (f : Fingers) (order : List NetNo) (levels : List Level) (before after : Kept) (limit left left_on left_after others : ℕ) → IsOrder f order → levels ≡ levels_of f order → first_with_many f order ≡ None → left_on + listed_units None levels ≡ left → before.lemmas ≡ [] → AreKept levels after → AreReached levels limit after.lemmas → others ≤ path_units levels + 1 → AreTied levels before after left_on left_after others → AttemptsOnce f limit left left_after
+attempted f order levels before after limit left left_on left_after others is same few went none h reached more tied =
+    let listed : listed_units (first_with_many f order) (levels_of f order) ≡ listed_units None levels = all_listed f order levels same few in
+    let lemmas : units_of (levels_of f order) after.lemmas ≡ units_of levels after.lemmas = ap (λ (ls : List Level). units_of ls after.lemmas) (sym same) in
+    let path : path_units (levels_of f order) ≡ path_units levels = ap path_units (sym same) in
+    let first : units_of levels before.lemmas ≡ 0 = units_none levels before.lemmas none in
     inr (record {
       attempt = record { limit = limit; order = order; lemmas = after.lemmas };
       is = record { order = is; justified = ap (λ (ls : List Level). unproved ls [] 5 after.lemmas) (sym same) ∙ h.justified; new = subst (λ (ls : List Level). AreNew ls after.lemmas) same h.new; reached = subst (λ (ls : List Level). AreReached ls limit after.lemmas) same reached };
       tried = refl;
-      many = omega (arith, tied.many, as_many f order levels are, few, ap length none);
+      many = omega (arith, tied.many, went, more, listed, lemmas, path, first);
     })
+
+-- an attempt without lemmas
+alone : (f : Fingers) (order : List NetNo) (limit left left_after : ℕ) → IsOrder f order → left ≤ left_after + listed_units (first_with_many f order) (levels_of f order) → AttemptsOnce f limit left left_after
+unfolding unproved
+alone f order limit left left_after is few =
+    inr (record {
+      attempt = record { limit = limit; order = order; lemmas = [] };
+      is = record { order = is; justified = refl; new = new_none (levels_of f order); reached = All-nil (IsWithin (levels_of f order) (2 * (limit + 1) + 1)) };
+      tried = refl;
+      many = omega (arith, few);
+    })
+
+-- where too few units were left for a list of the choices
+pub listed_alone : (f : Fingers) (order : List NetNo) (levels : List Level) (limit left left_after : ℕ) → IsOrder f order → levels ≡ levels_of f order → first_with_many f order ≡ None → left < listed_units None levels → AttemptsOnce f limit left left_after
+listed_alone f order levels limit left left_after is same few less =
+    alone f order limit left left_after is (omega (arith, less, all_listed f order levels same few))
+
+-- where a gate has too many
+pub crowded_alone : (f : Fingers) (order : List NetNo) (gate : NetNo) (limit left left_after : ℕ) → IsOrder f order → first_with_many f order ≡ Some gate → left ≤ left_after + 1024 → AttemptsOnce f limit left left_after
+crowded_alone f order gate limit left left_after is many few =
+    let listed : listed_units (first_with_many f order) (levels_of f order) ≡ 1024 = ap (λ (o : Option NetNo). listed_units o (levels_of f order)) many in
+    alone f order limit left left_after is (omega (arith, few, listed))

@@ -1,8 +1,8 @@
--- What the nodes of a visit went for.
+-- What the units of a visit went for.
 use Rattle.std.proofs.Common.{ℕ, ◌≡◌, ◌≢◌, ◌+◌, ◌-◌, ◌<◌, ◌≤◌, Bool, cond, max, [], ◌∷◌, ◌++◌, length, length-append, sum_by, inl, inr, refl, sym, ap, subst, arith, All, ◌∙◌}
 use Rattle.std.proofs.lemmas.Bool.{cases_Bool}
 use Rattle.std.proofs.lemmas.List.Elements.{All-append, All-nil}
-use Rattle.std.proofs.lemmas.List.Sums.{sum_by-append}
+use Rattle.std.proofs.lemmas.List.Sums.{sum_by-append, sum_by-cons}
 use Rattle.cell_num.specs.declared.finger.Fingers.{Fingers}
 use Rattle.cell_num.proofs.Lists.{all_imply, all_one}
 use Rattle.cell_num.proofs.Pairs.{cross, pairs_append, pairs_none, pairs_one}
@@ -21,9 +21,9 @@ use Rattle.lemma_check.specs.declared.known.Known.{Known}
 use Rattle.lemma_check.specs.Reaches.{raised, same_state}
 use Rattle.lemma_check.specs.Known.{best_known}
 use Rattle.lemma_check.proofs.States.{same_state_from}
-use Rattle.trail_search.specs.Proof.{AttemptsOnce, IsAttempt}
+use Rattle.trail_search.specs.Proof.{AttemptsOnce, IsAttempt, attempt_units}
 use Rattle.trail_search.specs.Behind.{fingers_behind}
-use Rattle.trail_search.specs.Searched.{AreSearched, Bounded, IsBounded, IsStateWithin, IsBoundWithin, IsTryWithin, IsTry, nodes_of}
+use Rattle.trail_search.specs.Searched.{AreSearched, Bounded, IsBounded, IsStateWithin, IsBoundWithin, IsTryWithin, IsTry, Try, tried_units}
 use Rattle.cell_num.specs.declared.halt.Halt.{Halt}
 use Rattle.cell_num.specs.declared.halt.Halt.TheVariants as halted
 use Rattle.trail_search.specs.Visit.{IfSpent, IsRaised, IsSpent, TriesOnce}
@@ -39,12 +39,15 @@ tries_none k s bound left left_after e = record { tries = []; tried = All-nil (I
 pub tries_once : (k : Kinds) (s : State) (f : Fingers) (allowed left left_after : ℕ) → IsState k s → f ≡ fingers_behind k s → AttemptsOnce f allowed left left_after → TriesOnce k s (allowed + 1) left left_after
 tries_once k s f allowed left left_after valid is (inl e) = tries_none k s (allowed + 1) left left_after e
 tries_once k s f allowed left left_after valid is (inr h) =
+    let one : Try = record { state = s; attempt = h.attempt } in
+    let went : left ≤ left_after + tried_units k one = subst (λ (z : Fingers). left ≤ left_after + attempt_units z h.attempt) is h.many in
+    let count : sum_by (tried_units k) (one ∷ []) ≡ tried_units k one + 0 = sum_by-cons (tried_units k) one [] in
     record {
-      tries = record { state = s; attempt = h.attempt } ∷ [];
-      tried = all_one (IsTry k) (record { state = s; attempt = h.attempt }) (record { valid = valid; attempt = subst (λ (z : Fingers). IsAttempt z h.attempt) is h.is });
-      tried_within = λ most here. all_one (IsTryWithin k most) (record { state = s; attempt = h.attempt }) (subst (λ (l : ℕ). IsStateWithin k most s (l + 1)) (sym h.tried) here);
+      tries = one ∷ [];
+      tried = all_one (IsTry k) one (record { valid = valid; attempt = subst (λ (z : Fingers). IsAttempt z h.attempt) is h.is });
+      tried_within = λ most here. all_one (IsTryWithin k most) one (subst (λ (l : ℕ). IsStateWithin k most s (l + 1)) (sym h.tried) here);
       few = omega arith;
-      many = omega (arith, h.many);
+      many = omega (arith, went, count);
     }
 
 -- ---- how it goes on
@@ -53,7 +56,7 @@ pub spent_same : (k : Kinds) (n : ℕ) (s : State) (most : ℕ) (known : Known) 
 spent_same k n s most known left others =
     record { grown = λ z valid. omega arith; bounds = []; tries = []; different = pairs_none Differ; each = All-nil (IsRaised k n most known known); tried = All-nil (IsTry k); within = λ m here. All-nil (IsBoundWithin k m); tried_within = λ m here. All-nil (IsTryWithin k m); few = omega arith; many = omega arith }
 
--- a node of the path, and one attempt at most
+-- a unit of the path, and one attempt at most
 pub spent_one : (k : Kinds) (n : ℕ) (s : State) (most : ℕ) (known : Known) (left left_on left_after : ℕ) → left_on + 1 ≡ left → TriesOnce k s most left_on left_after → IsSpent k n s most known known left left_after 1
 spent_one k n s most known left left_on left_after went h =
     record { grown = λ z valid. omega arith; bounds = []; tries = h.tries; different = pairs_none Differ; each = All-nil (IsRaised k n most known known); tried = h.tried; within = λ m here. All-nil (IsBoundWithin k m); tried_within = h.tried_within; few = omega (arith, h.few); many = omega (arith, went, h.many) }
@@ -86,7 +89,7 @@ pub spent_then : (k : Kinds) (n : ℕ) (s : State) (most : ℕ) (a b c : Known) 
 spent_then k n s most a b c left left_on left_after others more g h =
     let bounds : length (g.bounds ++ h.bounds) ≡ length g.bounds + length h.bounds = length-append g.bounds h.bounds in
     let tries : length (g.tries ++ h.tries) ≡ length g.tries + length h.tries = length-append g.tries h.tries in
-    let nodes : sum_by nodes_of (g.tries ++ h.tries) ≡ sum_by nodes_of g.tries + sum_by nodes_of h.tries = sum_by-append nodes_of g.tries h.tries in
+    let units : sum_by (tried_units k) (g.tries ++ h.tries) ≡ sum_by (tried_units k) g.tries + sum_by (tried_units k) h.tries = sum_by-append (tried_units k) g.tries h.tries in
     record {
       grown = λ z valid. omega (arith, g.grown z valid, h.grown z valid);
       bounds = g.bounds ++ h.bounds;
@@ -99,7 +102,7 @@ spent_then k n s most a b c left left_on left_after others more g h =
       within = λ m here. All-append (IsBoundWithin k m) g.bounds h.bounds (g.within m here) (h.within m here);
       tried_within = λ m here. All-append (IsTryWithin k m) g.tries h.tries (g.tried_within m here) (h.tried_within m here);
       few = omega (arith, g.few, h.few, bounds, tries);
-      many = omega (arith, g.many, h.many, bounds, nodes);
+      many = omega (arith, g.many, h.many, bounds, units);
     }
 
 -- the state after a column is met where this one is
@@ -186,11 +189,11 @@ searched k s a b n most left left_after others kinds e same h =
       many = omega (arith, h.many, same, there);
     }
 
-pub searched_less : (k : Kinds) (most nodes fewer others same : ℕ) → fewer ≤ nodes → others ≡ same → AreSearched k most nodes others → AreSearched k most fewer same
-searched_less k most nodes fewer others same less e h =
+pub searched_less : (k : Kinds) (most units fewer others same : ℕ) → fewer ≤ units → others ≡ same → AreSearched k most units others → AreSearched k most fewer same
+searched_less k most units fewer others same less e h =
     record { bounds = h.bounds; tries = h.tries; different = h.different; each = h.each; tried = h.tried; within = h.within; tried_within = h.tried_within; few = omega (arith, h.few, e); many = omega (arith, h.many, less, e) }
 
--- where there was no node
-pub searched_none : (k : Kinds) (most nodes others : ℕ) → nodes ≡ 0 → AreSearched k most nodes others
-searched_none k most nodes others e =
+-- where there was no unit
+pub searched_none : (k : Kinds) (most units others : ℕ) → units ≡ 0 → AreSearched k most units others
+searched_none k most units others e =
     record { bounds = []; tries = []; different = pairs_none Differ; each = All-nil (IsBounded k most); tried = All-nil (IsTry k); within = All-nil (IsBoundWithin k most); tried_within = All-nil (IsTryWithin k most); few = omega arith; many = omega (arith, e) }

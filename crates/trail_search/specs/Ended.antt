@@ -1,5 +1,5 @@
 -- How a search ended: with the first least row and its certificate, or with what is proved without a row.
-use Rattle.std.specs.Prelude.{ℕ, ◌≡◌, ◌≤◌, ◌<◌, ◌+◌, ◌-◌, ◌⊎◌, true, List, None, IsNone, length}
+use Rattle.std.specs.Prelude.{ℕ, ◌≡◌, ◌≤◌, ◌<◌, ◌+◌, ◌-◌, ◌⊎◌, true, List, None, IsNone}
 use Rattle.cell_num.specs.declared.net.NetNo.{NetNo}
 use Rattle.cell_num.specs.declared.finger.Fingers.{Fingers}
 use Rattle.cell_num.specs.Fingers.{columns_of}
@@ -12,54 +12,57 @@ use Rattle.row_search.specs.First.{IsFirstLeast}
 use Rattle.trail_log.specs.declared.trails.TrailCertificate.{TrailCertificate}
 use Rattle.trail_log.specs.Fits.{TrailsFit}
 use Rattle.trail_check.specs.Accepted.{IsAccepted, IsLow, first_unproved, least_gaps}
-use Rattle.trail_check.specs.Gates.{AreGates, first_with_many, has_many_ways}
-use Rattle.trail_search.specs.Proof.{HasNew, HasReached, IsMost}
+use Rattle.trail_check.specs.Gates.{AreGates, HasFewWays, has_many_ways}
+use Rattle.trail_search.specs.Proof.{HasNew, HasReached, IsMost, gate_units, lemma_units}
 use Rattle.trail_search.specs.Searched.{AreSearched}
 use Rattle.trail_search.specs.declared.found.TrailFound.{TrailFound}
 use Rattle.trail_search.specs.declared.found.TrailStop.{TrailStop}
 use Rattle.trail_search.specs.declared.found.TrailStop.TheVariants as stopped
 
--- the certificate is accepted with the gaps of the row, lists it, and a text can hold it
+-- The certificate is accepted with the gaps of the row, and lists it. A checker can list the ways of its gates, and a
+-- text can hold it.
 pub record IsCertified (k : Kinds) (f : Fingers) (row : List Column) (trails : TrailCertificate) : Type 0 where
   pub accepted : IsAccepted f trails (gaps_of row)
+  pub few_ways : HasFewWays f trails
   pub lists : Lists k trails.best (λ listed. listed ≡ row)
   pub fits : TrailsFit k trails
 
 -- The row is the first least one, and is certified. No lemma is said by an earlier one, and each is on a state that
--- is reached while a row of at most these gaps is looked for. There is a node of the budget for each.
+-- is reached while a row of at most these gaps is looked for. The budget has the units of a visit for each.
 pub record IsTrailFound (f : Fingers) (budget : ℕ) (row : List Column) (trails : TrailCertificate) : Type 0 where
   pub first : IsFirstLeast f row
   pub certified : WithKinds f (λ k. IsCertified k f row trails)
   pub new : HasNew f trails
   pub reached : HasReached f trails (gaps_of row)
-  pub kept : length trails.lemmas ≤ budget
+  pub kept : lemma_units f trails ≤ budget
 
 -- every arrangement has more gaps
 abbrev pub HaveMore : Fingers → ℕ → Type 0
 HaveMore f gaps = (other : List Column) → IsArrangement other f → gaps < gaps_of other
 
--- the nodes of the budget but those of the lemmas, one of each gate and one at the end
-abbrev pub row_nodes : ℕ → TrailCertificate → ℕ
-row_nodes budget trails = budget - (length trails.lemmas + length trails.order + 1)
+-- the units of the budget but those of a visit for each lemma, one at each gate and one at the end
+abbrev pub row_units : Fingers → ℕ → TrailCertificate → ℕ
+row_units f budget trails = budget - (lemma_units f trails + gate_units f trails.order + 1)
 
 -- The certificate lists no row. Its gates are as a checker asks, and all its lemmas are justified: they prove that no
 -- arrangement has fewer gaps. No lemma is said by an earlier one, and each is on a state that is reached while a row of
--- at most these gaps is looked for. There is a node of the budget for each. The lemmas are as many as the budget has
--- nodes, except one of each gate; or no lemmas in this order prove more gaps. No arrangement has as few gaps; or the
--- nodes for rows, except one of each column, went for bounds of states, and for attempts to refute states by trails.
+-- at most these gaps is looked for. The budget has the units of a visit for each lemma. They are all its units, except
+-- those of one visit at each gate; or no lemmas in this order prove more gaps. No arrangement has as few gaps; or the
+-- units for rows, except one of each column, went for bounds of states, and for attempts to refute states by trails.
 pub record IsTrailSpent (f : Fingers) (budget : ℕ) (trails : TrailCertificate) (proved : ℕ) : Type 0 where
   pub lists_none : IsNone trails.best
   pub gates : AreGates f trails
-  pub few_ways : first_with_many f trails.order ≡ None
+  pub few_ways : HasFewWays f trails
   pub justified : first_unproved f trails ≡ None
   pub new : HasNew f trails
   pub reached : HasReached f trails proved
   pub best : proved ≡ least_gaps f trails
   pub low : IsLow f proved
   pub fits : WithKinds f (λ k. TrailsFit k trails)
-  pub kept : length trails.lemmas ≤ budget
-  pub work : (budget ≤ length trails.lemmas + length trails.order) ⊎ IsMost f trails.order proved
-  pub rows : HaveMore f proved ⊎ WithKinds f (λ k. AreSearched k (proved + 1) (row_nodes budget trails) (columns_of f))
+  pub kept : lemma_units f trails ≤ budget
+  pub work : (budget ≤ lemma_units f trails + gate_units f trails.order) ⊎ IsMost f trails.order proved
+  pub rows : HaveMore f proved
+      ⊎ WithKinds f (λ k. AreSearched k (proved + 1) (row_units f budget trails) (columns_of f))
 
 -- the fingers of the gate pair in more ways than a checker lists
 abbrev pub IsCrowded : Fingers → NetNo → Type 0

@@ -5,6 +5,7 @@ pub mod Searched
 pub mod Proof
 pub mod Reached
 pub mod Search
+pub mod Units
 -- What inner contracts and proofs alone cite.
 pub mod First
 pub mod Visit

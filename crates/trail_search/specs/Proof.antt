@@ -1,5 +1,5 @@
 -- What lemmas prove of every arrangement of some fingers, and how the search for them ends.
-use Rattle.std.specs.Prelude.{ℕ, ◌≡◌, ◌≤◌, ◌+◌, ◌*◌, ◌==◌, ◌⊎◌, Bool, true, not, List, [], None, length, map}
+use Rattle.std.specs.Prelude.{ℕ, ◌≡◌, ◌≤◌, ◌+◌, ◌*◌, ◌==◌, ◌⊎◌, Bool, true, not, List, [], None, map}
 use Rattle.std.specs.List.{filter, range_with_len}
 use Rattle.cell_num.specs.declared.net.NetNo.{NetNo}
 use Rattle.cell_num.specs.declared.finger.Fingers.{Fingers}
@@ -13,12 +13,13 @@ use Rattle.trail_log.specs.Fits.{TrailsFit}
 use Rattle.trail_state.specs.Levels.{Ends, IsOrder}
 use Rattle.trail_check.specs.Accepted.{first_unproved, least_gaps}
 use Rattle.trail_check.specs.declared.lemma.TrailLemma.{TrailLemma}
-use Rattle.trail_check.specs.Gates.{AreGates, first_with_many, has_many_ways}
+use Rattle.trail_check.specs.Gates.{AreGates, HasFewWays, first_with_many, has_many_ways}
 use Rattle.trail_check.specs.Justified.{unproved}
 use Rattle.trail_check.specs.Leveled.{levels_of}
 use Rattle.trail_check.specs.Listed.{lemmas_listed}
 use Rattle.trail_search.specs.Reached.{AreReached}
 use Rattle.trail_search.specs.Search.{AreNew}
+use Rattle.trail_search.specs.Units.{listed_units, path_units, units_of}
 use Rattle.trail_search.specs.declared.proof.RefuteStop.{RefuteStop}
 use Rattle.trail_search.specs.declared.proof.RefuteStop.TheVariants as ended
 use Rattle.trail_search.specs.declared.proof.Proof.{Proof}
@@ -46,7 +47,7 @@ HasReached f trails gaps =
 -- are new, each of them, and on states that are reached. A text can hold it.
 pub record IsProof (f : Fingers) (proof : Proof) : Type 0 where
   pub gates : AreGates f proof.trails
-  pub few_ways : first_with_many f proof.trails.order ≡ None
+  pub few_ways : HasFewWays f proof.trails
   pub justified : first_unproved f proof.trails ≡ None
   pub new : HasNew f proof.trails
   pub reached : HasReached f proof.trails proof.gaps
@@ -65,16 +66,25 @@ IsMost f order gaps = Ends (levels_of f order) [] (2 * (gaps + 1) + 1) → ⊥
 abbrev pub HasMost : Fingers → ℕ → Type 0
 HasMost f gaps = (order : List NetNo) × IsOrder f order × IsMost f order gaps
 
--- of the nodes that were left a search took one for each lemma, and at most so many others
-pub record AreSpent (left left_after others : ℕ) (trails : TrailCertificate) : Type 0 where
-  pub few : left_after + length trails.lemmas ≤ left
-  pub many : left ≤ left_after + length trails.lemmas + others
+-- the units of one visit for each lemma of the certificate
+abbrev pub lemma_units : Fingers → TrailCertificate → ℕ
+lemma_units f trails =
+    units_of (levels_of f trails.order) (lemmas_listed (levels_of f trails.order) trails.lemmas)
 
--- No node is left, and so much is proved: each node but one for each gate at most went for a lemma.
+-- the units of one visit at each gate
+abbrev pub gate_units : Fingers → List NetNo → ℕ
+gate_units f order = path_units (levels_of f order)
+
+-- of the units that were left a search took those of each lemma, and at most so many others
+pub record AreSpent (f : Fingers) (left left_after others : ℕ) (trails : TrailCertificate) : Type 0 where
+  pub few : left_after + lemma_units f trails ≤ left
+  pub many : left ≤ left_after + lemma_units f trails + others
+
+-- No unit is left, and so much is proved: the units went for lemmas, but for one visit at each gate at most.
 pub record IsUnfinished (f : Fingers) (left left_after : ℕ) (proof : Proof) : Type 0 where
   pub none : left_after ≡ 0
   pub proved : IsProof f proof
-  pub nodes : AreSpent left left_after (length proof.trails.order) proof.trails
+  pub units : AreSpent f left left_after (gate_units f proof.trails.order) proof.trails
 
 -- lemmas over an order of the gates, to refute that a row has at most that many gaps
 pub record Attempt : Type 0 where
@@ -89,16 +99,18 @@ pub record IsAttempt (f : Fingers) (a : Attempt) : Type 0 where
   pub new : AreNew (levels_of f a.order) a.lemmas
   pub reached : AreReached (levels_of f a.order) a.limit a.lemmas
 
--- a node for each lemma, and at most one for each gate and one at the end
-abbrev pub most_nodes : Attempt → ℕ
-most_nodes a = length a.lemmas + length a.order + 1
+-- the units of the list of choices, of each lemma, and of at most one visit at each gate and one at the end
+abbrev pub attempt_units : Fingers → Attempt → ℕ
+attempt_units f a =
+    listed_units (first_with_many f a.order) (levels_of f a.order)
+    + units_of (levels_of f a.order) a.lemmas + gate_units f a.order + 1
 
--- the nodes went for the lemmas of an attempt to refute the limit
+-- the units went for an attempt to refute the limit
 pub record HasAttempted (f : Fingers) (limit left left_after : ℕ) : Type 0 where
   pub attempt : Attempt
   pub is : IsAttempt f attempt
   pub tried : attempt.limit ≡ limit
-  pub many : left ≤ left_after + most_nodes attempt
+  pub many : left ≤ left_after + attempt_units f attempt
 
 -- so they went, if any did
 abbrev pub AttemptsOnce : Fingers → ℕ → ℕ → ℕ → Type 0
@@ -109,13 +121,13 @@ abbrev pub AttemptsStopped : Fingers → ℕ → ℕ → ℕ → RefuteStop → 
 AttemptsStopped f limit left left_after ended.NoMemory = Unit {0}
 AttemptsStopped f limit left left_after stop = AttemptsOnce f limit left left_after
 
--- no node is left; or the gate has too many ways
+-- no unit is left; or the gate has too many ways
 abbrev pub EndsRefuting : Fingers → ℕ → RefuteStop → Type 0
 EndsRefuting f left ended.Spent = left ≡ 0
 EndsRefuting f left (ended.Choices gate) = has_many_ways f gate ≡ true
 EndsRefuting f left ended.NoMemory = Unit {0}
 
--- no node is left, and so much is proved; or the gate has too many ways
+-- no unit is left, and so much is proved; or the gate has too many ways
 abbrev pub StopsProving : Fingers → ℕ → ℕ → ProveStop → Type 0
 StopsProving f left left_after (stopped.Unfinished proof) = IsUnfinished f left left_after proof
 StopsProving f left left_after (stopped.Choices gate) = has_many_ways f gate ≡ true

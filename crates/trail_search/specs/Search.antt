@@ -1,4 +1,4 @@
--- What a search keeps, how it goes on, and the nodes that it spends.
+-- What a search keeps, how it goes on, and the units that it spends.
 use Rattle.std.specs.Prelude.{ℕ, ◌≡◌, ◌≤◌, ◌<◌, ◌+◌, ◌++◌, ◌⊎◌, false, List, [], Some, None, All, AllPairs, Contains}
 use Rattle.std.specs.Prelude.{length, slice_get}
 use Rattle.trail_state.specs.declared.edge.Node.{Node}
@@ -12,6 +12,7 @@ use Rattle.trail_check.specs.Listed.{lemmas_listed, nodes_of}
 use Rattle.trail_search.specs.declared.kept.Kept.{Kept}
 use Rattle.trail_search.specs.Line.{AllNodes}
 use Rattle.trail_search.specs.Reached.{IsWithin}
+use Rattle.trail_search.specs.Units.{units_of}
 
 -- few enough nodes to count them
 abbrev pub AreSmall : List Level → Type 0
@@ -63,10 +64,10 @@ pub record IsFurther (levels : List Level) (before after : Kept) : Type 0 where
   pub more : List TrailLemma
   pub grown : after.lemmas ≡ before.lemmas ++ more
 
--- a node was spent for each lemma that was added, and at most so many others
-pub record AreTied (before after : Kept) (left left_after others : ℕ) : Type 0 where
-  pub few : left_after + length after.lemmas ≤ left + length before.lemmas
-  pub many : left + length before.lemmas ≤ left_after + length after.lemmas + others
+-- the units of each lemma that was added were spent, and at most so many others
+pub record AreTied (levels : List Level) (before after : Kept) (left left_after others : ℕ) : Type 0 where
+  pub few : left_after + units_of levels after.lemmas ≤ left + units_of levels before.lemmas
+  pub many : left + units_of levels before.lemmas ≤ left_after + units_of levels after.lemmas + others
 
 -- where choices lead to the state, they lead to the states of all lemmas that were added
 abbrev pub StayWithin : List Level → ℕ → List Place → ℕ → Kept → Kept → Type 0

@@ -1,11 +1,11 @@
--- What the nodes of a search for a row went for: bounds of states, and lemmas by trails on the way to refute states.
+-- What the units of a search for a row went for: bounds of states, and attempts by trails to refute states.
 use Rattle.std.specs.Prelude.{ℕ, ◌≤◌, ◌<◌, ◌+◌, ◌≢◌, List, All, AllPairs, length, sum_by}
 use Rattle.row_state.specs.declared.kind.Kinds.{Kinds}
 use Rattle.row_state.specs.declared.state.State.{State}
 use Rattle.row_state.specs.Completion.{Need}
 use Rattle.row_state.specs.Start.{IsState}
 use Rattle.row_search.specs.Reached.{IsReached}
-use Rattle.trail_search.specs.Proof.{Attempt, IsAttempt, most_nodes}
+use Rattle.trail_search.specs.Proof.{Attempt, IsAttempt, attempt_units}
 use Rattle.trail_search.specs.Behind.{fingers_behind}
 
 -- A prefix of some arrangement has the state. Its gaps and the bound are at most `most`.
@@ -44,12 +44,12 @@ pub record IsTry (k : Kinds) (t : Try) : Type 0 where
 abbrev pub IsTryWithin : Kinds → ℕ → Try → Type 0
 IsTryWithin k most t = IsStateWithin k most t.state (t.attempt.limit + 1)
 
-abbrev pub nodes_of : Try → ℕ
-nodes_of t = most_nodes t.attempt
+abbrev pub tried_units : Kinds → Try → ℕ
+tried_units k t = attempt_units (fingers_behind k t.state) t.attempt
 
--- The nodes went for bounds of states that rows reach, no two of them alike, and that many others; and for one attempt
+-- The units went for bounds of states that rows reach, no two of them alike, and that many others; and for one attempt
 -- each at most.
-pub record AreSearched (k : Kinds) (most nodes others : ℕ) : Type 0 where
+pub record AreSearched (k : Kinds) (most units others : ℕ) : Type 0 where
   pub bounds : List Bounded
   pub tries : List Try
   pub different : AllPairs (λ (a b : Bounded). a ≢ b) bounds
@@ -58,4 +58,4 @@ pub record AreSearched (k : Kinds) (most nodes others : ℕ) : Type 0 where
   pub within : All (IsBoundWithin k most) bounds
   pub tried_within : All (IsTryWithin k most) tries
   pub few : length tries ≤ length bounds + others
-  pub many : nodes ≤ length bounds + sum_by nodes_of tries + others
+  pub many : units ≤ length bounds + sum_by (tried_units k) tries + others

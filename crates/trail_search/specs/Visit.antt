@@ -9,7 +9,8 @@ use Rattle.lemma_check.specs.declared.known.Known.{Known}
 use Rattle.lemma_check.specs.Known.{best_known}
 use Rattle.row_search.specs.Steps.{IsStep, row_of}
 use Rattle.row_search.specs.Visit.{IsFirstWithin}
-use Rattle.trail_search.specs.Searched.{Bounded, IsBounded, IsStateWithin, IsBoundWithin, IsTryWithin, IsTry, Try, nodes_of}
+use Rattle.trail_search.specs.Searched.{Bounded, IsBounded, IsStateWithin, IsBoundWithin, IsTryWithin, IsTry, Try}
+use Rattle.trail_search.specs.Searched.{tried_units}
 use Rattle.cell_num.specs.declared.halt.Halt.{Halt}
 use Rattle.cell_num.specs.declared.halt.Halt.TheVariants as halted
 
@@ -22,7 +23,7 @@ pub record IsFirstOf (k : Kinds) (s : State) (allowed : ℕ) (steps : List Step)
   pub row : IsFirstWithin k s allowed (row_of k steps)
   pub sound : All (IsStep k) steps
 
--- where no node is left, none is left
+-- where the units are spent, none is left
 abbrev pub Halts : ℕ → Halt → Type 0
 Halts left halted.Spent = left ≡ 0
 Halts left halted.NoMemory = Unit {0}
@@ -35,13 +36,13 @@ TriesWithin k s bound tries = (most : ℕ) → IsStateWithin k most s bound → 
 abbrev pub BoundsWithin : Kinds → State → ℕ → List Bounded → Type 0
 BoundsWithin k s bound bounds = (most : ℕ) → IsStateWithin k most s bound → All (IsBoundWithin k most) bounds
 
--- one attempt at most took the nodes
+-- one attempt at most took the units
 pub record TriesOnce (k : Kinds) (s : State) (bound left left_after : ℕ) : Type 0 where
   pub tries : List Try
   pub tried : All (IsTry k) tries
   pub tried_within : TriesWithin k s bound tries
   pub few : length tries ≤ 1
-  pub many : left ≤ left_after + sum_by nodes_of tries
+  pub many : left ≤ left_after + sum_by (tried_units k) tries
 
 -- a bound that came to be known, of a state with fewer than n columns left
 pub record IsRaised (k : Kinds) (n most : ℕ) (before after : Known) (b : Bounded) : Type 0 where
@@ -50,7 +51,7 @@ pub record IsRaised (k : Kinds) (n most : ℕ) (before after : Known) (b : Bound
   pub known : b.bound ≤ best_known after k b.state
   pub below : columns_left k b.state < n
 
--- The nodes went for bounds that came to be known, for so many others, and for one attempt each at most.
+-- The units went for bounds that came to be known, for so many others, and for one attempt each at most.
 pub record IsSpent
     (k : Kinds) (n : ℕ) (s : State) (most : ℕ) (before after : Known) (left left_after others : ℕ) : Type 0 where
   pub grown : (s : State) → IsState k s → best_known before k s ≤ best_known after k s
@@ -62,9 +63,9 @@ pub record IsSpent
   pub within : BoundsWithin k s most bounds
   pub tried_within : TriesWithin k s most tries
   pub few : length tries ≤ length bounds + others
-  pub many : left ≤ left_after + length bounds + sum_by nodes_of tries + others
+  pub many : left ≤ left_after + length bounds + sum_by (tried_units k) tries + others
 
--- so it is where no node is left
+-- so it is where the units are spent
 abbrev pub IfSpent : Halt → Type 0 → Type 0
 IfSpent halted.Spent P = P
 IfSpent halted.NoMemory P = Unit {0}

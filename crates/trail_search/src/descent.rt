@@ -21,7 +21,7 @@ pub(crate) struct Task<'a> {
 }
 
 /// The first completion of the state with as few gaps as are allowed, its last step first, or none. What is known of
-/// states is true. A visit takes a node of those left, and so does each one of the trails that are tried.
+/// states is true. A visit takes one unit of those left. The trails that are tried take others.
 pub(crate) fn visit(
     task: &Task,
     known: &mut Known,

@@ -35,7 +35,7 @@ fn listed(alloc: Global, kinds: &Kinds, gaps: u32, steps: &[Step]) -> Result<Lis
 
 // The first row from the start that has at most this number of gaps, or none. Big values are dropped by calls, here and
 // below: where one goes out of scope by itself, all its parts are proved at each end.
-#[tactic(auto, using(crate::proofs::Tried::true_none, crate::proofs::Tried::first_found, crate::proofs::Tried::none_found, crate::proofs::Spent::searched))]
+#[tactic(auto, using(crate::proofs::Rules::row_from_rules))]
 fn row_from(
     alloc: Global,
     kinds: &Kinds,

@@ -1,8 +1,9 @@
-ghost use Rattle.std.specs.Prelude.{◌≡◌, ◌≤◌, ◌<◌, ◌+◌, [], true, false, OnOk, length, slice_get};
+ghost use Rattle.std.specs.Prelude.{◌≡◌, ◌≤◌, ◌<◌, ◌+◌, [], true, false, OnOk, slice_get};
 ghost use Rattle.trail_check.specs.Indexed.{IsIndexOf};
 ghost use Rattle.trail_check.specs.Justified.{ends_proved, gaps_proved, is_justified, is_known};
 ghost use Rattle.trail_check.specs.Listed.{nodes_of};
 ghost use Rattle.trail_search.specs.Search.{AreChained, AreKept, IsFurther, IsStateOf, StayAs, StayWithin, lemma_of};
+ghost use Rattle.trail_search.specs.Units.{units_at, units_of};
 
 use crate::line::line_of;
 use cell_num::{List, NoMemory};
@@ -60,7 +61,8 @@ impl Kept {
         ensures further { OnOk result (IsFurther levels.now self.old self.new) }
         ensures known { OnOk result (is_known self.new.lemmas done state.now bound ≡ true) }
         ensures others { OnOk result (StayAs done bound self.old self.new) }
-        ensures one { OnOk result (length self.new.lemmas ≡ length self.old.lemmas + 1) }
+        ensures one { OnOk result (units_of levels.now self.new.lemmas ≡
+            units_of levels.now self.old.lemmas + units_at levels.now done) }
         ensures within { OnOk result (StayWithin levels.now done state.now bound self.old self.new) }
     {
         let line = line_of(alloc, done, state.as_slice(), bound)?;

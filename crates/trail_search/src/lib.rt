@@ -15,6 +15,7 @@ mod order;
 mod proof;
 mod refute;
 mod search;
+mod units;
 mod visit;
 
 pub use found::{TrailFound, TrailStop};

@@ -2,9 +2,10 @@ ghost use Rattle.std.specs.Prelude.{◌≡◌, ◌≤◌, ◌<◌, ◌+◌, ◌*
 ghost use Rattle.cell_num.specs.Fingers.{AreFingers};
 ghost use Rattle.trail_state.specs.Levels.{Ends};
 ghost use Rattle.trail_check.specs.Justified.{ends_proved, gaps_proved};
-ghost use Rattle.trail_search.specs.Proof.{AreSpent, IsMost, IsProof, StopsProving};
+ghost use Rattle.trail_search.specs.Proof.{AreSpent, IsMost, IsProof, StopsProving, gate_units};
 ghost use Rattle.trail_search.specs.Reached.{AreReached};
 ghost use Rattle.trail_search.specs.Search.{AreChained, AreKept, AreSmall, AreTied, IsFurther};
+ghost use Rattle.trail_search.specs.Units.{path_units};
 
 use crate::gates::fill;
 use crate::kept::Kept;
@@ -28,7 +29,7 @@ pub(crate) fn most_ends(limit: u32) -> u32
     2 * (limit + 1)
 }
 
-// Refutes the limits in turn, from 0 on; whether it came to one that it does not refute before the nodes were spent.
+// Refutes the limits in turn, from 0 on; whether it came to one that it does not refute before the units were spent.
 #[tactic(auto, using(crate::proofs::Grown::further_same, crate::proofs::Grown::further_then))]
 fn refute_limits(
     alloc: Global,
@@ -45,10 +46,11 @@ fn refute_limits(
     ensures most { IfOk result (λ whole. whole ≡ true → gaps_proved (ends_proved kept.new.lemmas) < 31 →
         Ends levels.now [] (2 * (gaps_proved (ends_proved kept.new.lemmas) + 1) + 1) → ⊥) }
     ensures left { left.new ≤ left.old }
-    ensures path { IfOk result (λ _. AreTied kept.old kept.new left.old left.new (length levels.now + 1)) }
+    ensures path { IfOk result (λ _.
+        AreTied levels.now kept.old kept.new left.old left.new (path_units levels.now + 1)) }
     ensures spent { IfOk result (λ whole. whole ≡ false → left.new ≡ 0) }
     ensures spent_path { IfOk result (λ whole. whole ≡ false →
-        AreTied kept.old kept.new left.old left.new (length levels.now)) }
+        AreTied levels.now kept.old kept.new left.old left.new (path_units levels.now)) }
     ensures reached { IfOk result (λ _.
         AreReached levels.now (gaps_proved (ends_proved kept.new.lemmas)) kept.new.lemmas) }
 {
@@ -65,16 +67,16 @@ fn refute_limits(
 }
 
 /// Lemmas that prove how many gaps every arrangement of the fingers has: 31, or the greatest number that lemmas in this
-/// order can prove. It takes at most `left` nodes, and leaves there how many are left for later calls. It takes a node
-/// for each lemma, and at most one more for each gate and one at the end.
-#[tactic(auto, using(crate::proofs::Proved::none_kept, crate::proofs::Proved::is_proof, crate::proofs::Proved::levels_short, crate::proofs::Proved::gate_crowded))]
+/// order can prove. It takes at most `left` units, and leaves there how many are left for later calls: it takes those
+/// of a visit for each lemma, and at most those of one visit more at each gate and one at the end.
+#[tactic(auto, using(crate::proofs::Rules::prove_rules))]
 pub(crate) fn prove(alloc: Global, fingers: &Fingers, left: &mut u64) -> Result<Proof, ProveStop>
     requires fingers { AreFingers fingers.now }
     ensures proof { IfOk result (IsProof fingers.now) }
     ensures most { IfOk result (λ proof. proof.gaps < 31 → IsMost fingers.now proof.trails.order proof.gaps) }
     ensures left { left.new ≤ left.old }
-    ensures nodes { IfOk result (λ proof.
-        AreSpent left.old left.new (length proof.trails.order + 1) proof.trails) }
+    ensures units { IfOk result (λ proof.
+        AreSpent fingers.now left.old left.new (gate_units fingers.now proof.trails.order + 1) proof.trails) }
     ensures stopped { IfErr result (StopsProving fingers.now left.old left.new) }
 {
     let order = order(alloc, fingers)?;

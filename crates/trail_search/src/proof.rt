@@ -13,7 +13,7 @@ pub(crate) struct Proof {
 /// Why a search for a proof ends early.
 #[derive(Debug, Drop)]
 pub(crate) enum ProveStop {
-    /// The nodes are spent; what is proved so far.
+    /// The units are spent; what is proved so far.
     Unfinished(Proof),
     /// The fingers of the gate pair in too many ways.
     Choices { gate: NetNo },
@@ -33,7 +33,7 @@ impl From<NoMemory> for ProveStop {
 /// Why it is not known whether a limit is refuted.
 #[derive(Debug, Drop)]
 pub(crate) enum RefuteStop {
-    /// The nodes are spent.
+    /// The units are spent.
     Spent,
     /// The fingers of the gate pair in too many ways.
     Choices { gate: NetNo },

@@ -9,6 +9,7 @@ use crate::kept::Kept;
 use crate::limits::{MOST_LIMIT, most_ends};
 use crate::order::order;
 use crate::proof::RefuteStop;
+use crate::units::{CROWDED_UNITS, listed_units, take};
 use crate::visit::visit;
 use cell_num::{Fingers, Halt};
 use std::alloc::Global;
@@ -16,9 +17,9 @@ use trail_check::{first_with_many, levels_of};
 use trail_state::TrailState;
 
 /// Whether it is proved that every arrangement of the fingers has more than `limit` gaps: a limit up to 30 is refuted
-/// where lemmas in the order that is tried can refute it. It takes at most `left` nodes, and leaves there how many are
-/// left for later calls. A node is a state of which no lemma says so much.
-#[tactic(auto, using(crate::proofs::States::state_first, crate::proofs::Proved::none_kept, crate::proofs::Proved::kept_least, crate::proofs::Proved::levels_short, crate::proofs::Proved::gate_crowded))]
+/// where lemmas in the order that is tried can refute it. It takes at most `left` units, and leaves there how many are
+/// left for later calls: those of a list of all choices, and of a visit of each state of which no lemma says so much.
+#[tactic(auto, using(crate::proofs::Rules::is_refuted_rules))]
 pub(crate) fn is_refuted(
     alloc: Global,
     fingers: &Fingers,
@@ -40,9 +41,15 @@ pub(crate) fn is_refuted(
     let order = order(alloc, fingers)?;
     let crowded = first_with_many(alloc, fingers, order.as_slice())?;
     if let Some(gate) = crowded {
+        if !take(left, CROWDED_UNITS) {
+            return Err(RefuteStop::Spent);
+        }
         return Err(RefuteStop::Choices { gate });
     }
     let levels = levels_of(alloc, fingers, order.as_slice())?;
+    if !take(left, listed_units(&levels)) {
+        return Err(RefuteStop::Spent);
+    }
     let mut kept = Kept::new(alloc);
     match visit(
         alloc,

@@ -35,8 +35,9 @@ fn unfinished(proof: Proof) -> TrailStop
 }
 
 /// The first least arrangement of the fingers, and a certificate by trails that proves that none has fewer gaps; or
-/// what is proved when the budget of nodes is spent. A node is a state of the trails, or one of the row, of which
-/// nothing kept says that it fails.
+/// what is proved when the budget is spent. A visit of a state takes one unit of it, where nothing kept says that the
+/// state fails. A visit along trails takes one more for each 64 choices of the next gate. So does a list of the choices
+/// of all gates that a state of the row has left.
 pub fn search_trails(alloc: Global, fingers: &Fingers, budget: u64) -> Result<TrailFound, TrailStop>
     requires { AreFingers fingers.now }
     ensures found { IfOk result (IsFound fingers.now budget) }

@@ -1,19 +1,22 @@
-ghost use Rattle.std.specs.Prelude.{◌≡◌, ◌≤◌, ◌+◌, ◌-◌, true, false, IfOk, IfErr, drop, length, slice_get};
+ghost use Rattle.std.specs.Prelude.{◌≡◌, ◌≤◌, ◌+◌, true, false, IfOk, IfErr, drop, length, slice_get};
 ghost use Rattle.trail_state.specs.Levels.{Ends};
 ghost use Rattle.trail_check.specs.Justified.{is_known};
 ghost use Rattle.trail_check.specs.Listed.{nodes_of};
 ghost use Rattle.cell_num.specs.declared.halt.Halt.TheVariants as halt;
 ghost use Rattle.trail_search.specs.Search.{AreChained, AreKept, AreSmall, AreTied, IsFurther, IsStateOf, StayAs};
 ghost use Rattle.trail_search.specs.Search.{StayWithin};
+ghost use Rattle.trail_search.specs.Units.{path_units};
 
 use crate::kept::Kept;
+use crate::units::{take, units_at};
 use cell_num::{Halt, List};
 use std::alloc::Global;
 use trail_state::{Level, TrailState, after};
 
 /// Whether some choices of the gates left have at most `allowed` more ends; else a kept lemma says that none do.
-/// A visit takes one node of those left. It leaves a lemma, unless such choices are found or no node is left.
-#[tactic(auto, using(crate::proofs::Grown::further_same, crate::proofs::Grown::further_then, crate::proofs::Reached::within_same))]
+/// A visit takes the units of its state from those left. It leaves a lemma, unless such choices are found or no unit is
+/// left.
+#[tactic(auto, using(crate::proofs::Rules::visit_rules))]
 pub(crate) fn visit(
     alloc: Global,
     levels: &List<Level>,
@@ -36,20 +39,20 @@ pub(crate) fn visit(
     ensures found { IfOk result (λ found. found ≡ true → Ends (drop done levels.now) state.now (allowed + 1) → ⊥) }
     ensures others { IfOk result (λ _. StayAs done (allowed + 1) kept.old kept.new) }
     ensures left { left.new ≤ left.old }
-    ensures each { IfOk result (λ found. found ≡ false → AreTied kept.old kept.new left.old left.new 0) }
-    ensures path { IfOk result (λ _. AreTied kept.old kept.new left.old left.new (length levels.now - done + 1)) }
+    ensures each { IfOk result (λ found. found ≡ false → AreTied levels.now kept.old kept.new left.old left.new 0) }
+    ensures path { IfOk result (λ _.
+        AreTied levels.now kept.old kept.new left.old left.new (path_units (drop done levels.now) + 1)) }
     ensures spent { IfErr result (λ why. why ≡ halt.Spent → left.new ≡ 0) }
     ensures spent_kept { IfErr result (λ why. why ≡ halt.Spent → IsFurther levels.now kept.old kept.new) }
     ensures within { IfOk result (λ _. StayWithin levels.now done state.now (allowed + 1) kept.old kept.new) }
     ensures spent_within { IfErr result (λ why. why ≡ halt.Spent →
         StayWithin levels.now done state.now (allowed + 1) kept.old kept.new) }
     ensures spent_path { IfErr result (λ why. why ≡ halt.Spent →
-        AreTied kept.old kept.new left.old left.new (length levels.now - done)) }
+        AreTied levels.now kept.old kept.new left.old left.new (path_units (drop done levels.now))) }
 {
-    if *left == 0 {
+    if !take(left, units_at(levels, done)) {
         return Err(Halt::Spent);
     }
-    *left -= 1;
     let Some(level) = levels.get(done as usize) else {
         return Ok(true);
     };

@@ -47,7 +47,7 @@ pub drawn_zip : (f : Fingers) (zs : List Drawn) → All (IsDrawn f) zs → AreEd
 drawn_zip f [] h = tt
 drawn_zip f (z ∷ zs) h = (All-head (IsDrawn f) z zs h, drawn_zip f zs (All-tail (IsDrawn f) z zs h))
 
-added_permutes : (c es : List Edge) → IsPermutation (c ++ es) (added es c)
+pub added_permutes : (c es : List Edge) → IsPermutation (c ++ es) (added es c)
 added_permutes [] es = IsPermutation-refl es
 added_permutes (e ∷ c) es =
     IsPermutation-trans (e ∷ (c ++ es)) (c ++ e ∷ es) (added (e ∷ es) c)

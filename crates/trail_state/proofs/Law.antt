@@ -29,7 +29,7 @@ use Rattle.trail_state.specs.Places.{is_met, node_at}
 use Rattle.trail_state.specs.Settling.{ends_after, is_open, state_after}
 use Rattle.trail_state.specs.declared.level.Level.{Level}
 use Rattle.trail_state.proofs.Along.{AreBelow, AreNodes, AreOpen, all_added, along_settled, ends_along, settled_least, start_follows}
-use Rattle.trail_state.specs.Choices.{AreEdgesOf, is_on}
+use Rattle.trail_state.specs.Choices.{AreEdgesOf, IsChoice, is_on}
 use Rattle.trail_state.proofs.Chosen.{Drawn, IsChosen, IsDrawn, IsOf, all_chosen, column_at, edge_at}
 use Rattle.trail_state.proofs.Counted.{settled}
 use Rattle.trail_state.proofs.Filling.{HasNets, HaveNets, filled, filled_below, filled_breaks, filled_edges}
@@ -39,7 +39,7 @@ use Rattle.trail_state.proofs.Links.{finger_of, fingers_of}
 use Rattle.trail_state.specs.Nodes.{any_can_meet, can_meet, is_net_in, open_nodes}
 use Rattle.trail_state.proofs.Opened.{in_net, left_has, met_can, net_small, open_differ, open_has, open_is, right_has}
 use Rattle.trail_state.proofs.Picked.{Pick, Picked, pick}
-use Rattle.trail_state.proofs.Walks.{Walk, edges_of}
+use Rattle.trail_state.proofs.Walks.{Walk, breaks_of, edges_of}
 
 -- a gate of a finger is a net
 gate_below : (r : Row) (nets g : ℕ) (fs : List Finger) → All (IsFinger r nets) fs → 0 < on_gate g fs → g < nets
@@ -53,7 +53,7 @@ gate_below r nets g (x ∷ xs) all some =
           gate_below r nets g xs (All-tail (IsFinger r nets) x xs all) (omega (arith, some, none, count_cons (is_on g) x xs))
     ]
 
-is_net_gate : (f : Fingers) (g : ℕ) → AreFingers f → IsGate f g → g < f.nets
+pub is_net_gate : (f : Fingers) (g : ℕ) → AreFingers f → IsGate f g → g < f.nets
 is_net_gate f g ok some = elim (cases_lt 0 (on_gate g f.p)) [
   | inl p ↦ gate_below P f.nets g f.p ok.p p
   | inr none ↦ gate_below N f.nets g f.n ok.n (omega (arith, some, none))
@@ -230,11 +230,13 @@ module _ (n : ℕ) (big : 65536 ≤ n) (f : Fingers) (ok : AreFingers f) (order 
     all_picks : Picks order
     all_picks = picks order is_order.gates
 
-    same_edges : (cs : List (List Edge)) → AllZip (Picked f zs) order cs → IsPermutation (fingers_of (all_added [] cs)) (fingers_of (edges_of walk))
-    same_edges cs each =
+    chosen_edges : (cs : List (List Edge)) → AllZip (Picked f zs) order cs → IsPermutation (edges_of walk) (all_added [] cs)
+    chosen_edges cs each =
         let all : IsPermutation (map edge_at zs ++ []) (all_added [] cs) = all_chosen order zs [] cs is_order.once all_of (all_chosen_of order cs each) in
-        let them : IsPermutation (edges_of walk) (all_added [] cs) = subst (λ l. IsPermutation l (all_added [] cs)) (append-nil (map edge_at zs) ∙ zip_edges f row (edges_of walk) edges) all in
-        IsPermutation-map finger_of (all_added [] cs) (edges_of walk) (IsPermutation-sym (edges_of walk) (all_added [] cs) them)
+        subst (λ l. IsPermutation l (all_added [] cs)) (append-nil (map edge_at zs) ∙ zip_edges f row (edges_of walk) edges) all
+
+    same_edges : (cs : List (List Edge)) → AllZip (Picked f zs) order cs → IsPermutation (fingers_of (all_added [] cs)) (fingers_of (edges_of walk))
+    same_edges cs each = IsPermutation-map finger_of (all_added [] cs) (edges_of walk) (IsPermutation-sym (edges_of walk) (all_added [] cs) (chosen_edges cs each))
 
     row_ends : (cs : List (List Edge)) → AllZip (Picked f zs) order cs → ends_along n opens 0 [] cs ≤ 2 * (gaps_of row + 1)
     row_ends cs each =
@@ -255,3 +257,29 @@ module _ (n : ℕ) (big : 65536 ≤ n) (f : Fingers) (ok : AreFingers f) (order 
 
 pub levels_law : (f : Fingers) → AreFingers f → (order : List NetNo) → IsOrder f order → (ls : List Level) (k : ℕ) → AreLevels f order ls → Ends ls [] k → (row : List Column) → IsArrangement row f → k ≤ 2 * (gaps_of row + 1)
 levels_law f ok order is_order ls k levels h row arranges = row_least 65536 (omega arith) f ok order is_order ls k levels h row arranges
+
+-- a walk through a row, with one choice of each gate that has its edges
+pub record OfRow (f : Fingers) (order : List NetNo) (row : List Column) : Type 0 where
+  pub walk : Walk
+  pub few : breaks_of walk ≤ gaps_of row
+  pub choices : List (List Edge)
+  pub each : AllZip (λ (g : NetNo) (c : List Edge). IsChoice f g.0 c) order choices
+  pub same : IsPermutation (edges_of walk) (all_added [] choices)
+
+all_choice : (f : Fingers) (zs : List Drawn) (gs : List NetNo) (cs : List (List Edge)) → AllZip (Picked f zs) gs cs → AllZip (λ (g : NetNo) (c : List Edge). IsChoice f g.0 c) gs cs
+all_choice f zs [] [] each = tt
+all_choice f zs [] (c ∷ cs) each = absurd each
+all_choice f zs (g ∷ gs) [] each = absurd each
+all_choice f zs (g ∷ gs) (c ∷ cs) each = (each.0.choice, all_choice f zs gs cs each.1)
+
+pub of_row : (f : Fingers) → AreFingers f → (order : List NetNo) → IsOrder f order → (row : List Column) → IsArrangement row f → OfRow f order row
+of_row f ok order is_order row arranges =
+    let big : 65536 ≤ 65536 = omega arith in
+    let p : Picks 65536 big f ok order is_order row arranges order = all_picks 65536 big f ok order is_order row arranges in
+    record {
+      walk = walk 65536 big f ok order is_order row arranges;
+      few = filled_breaks (p_first 65536 big f ok order is_order row arranges) (n_first 65536 big f ok order is_order row arranges) row;
+      choices = p.cs;
+      each = all_choice f (zs 65536 big f ok order is_order row arranges) order p.cs p.each;
+      same = chosen_edges 65536 big f ok order is_order row arranges p.cs p.each;
+    }

@@ -17,7 +17,7 @@ pub returns-in-Err-Unfinished-clause-stopped : goal.returns-in-Err-Unfinished-cl
 returns-in-Err-Unfinished-clause-stopped c =
     let told : IsUnfinished c.args.fingers.now c.args.budget c.prove.new.left c.in-Err-Unfinished.proof = rw c.in-Err-Unfinished.field-0-is at c.in-Err-Unfinished.ensures.stopped in
     let is : c.unfinished.result ≡ stopped.Unfinished c.in-Err-Unfinished.proof.trails c.in-Err-Unfinished.proof.gaps = rw c.in-Err-Unfinished.field-0-is at c.unfinished.ensures in
-    subst (Stops c.args.fingers.now c.args.budget) (sym is) (spent_is c.in_ok-kinds.kinds c.args.fingers.now c.args.budget c.in-Err-Unfinished.proof c.in_ok-kinds.ensures.kinds c.in_ok-kinds.ensures.sound told.proved (omega (arith, told.nodes.few)) (inl (omega (arith, told.none, told.nodes.many))) (inr (searched_none c.in_ok-kinds.kinds _ _ _ (omega (arith, told.none, told.nodes.many)))))
+    subst (Stops c.args.fingers.now c.args.budget) (sym is) (spent_is c.in_ok-kinds.kinds c.args.fingers.now c.args.budget c.in-Err-Unfinished.proof c.in_ok-kinds.ensures.kinds c.in_ok-kinds.ensures.sound told.proved (omega (arith, told.units.few)) (inl (omega (arith, told.none, told.units.many))) (inr (searched_none c.in_ok-kinds.kinds _ _ _ (omega (arith, told.none, told.units.many)))))
 
 pub first_row-requires : goal.first_row-requires
 first_row-requires c = record { few = few_gaps c.in_ok-kinds.kinds c.args.fingers.now c.in-Ok.proof.gaps c.in_ok-kinds.ensures.kinds c.in_ok-kinds.ensures.sound c.in-Ok.ensures.proof.least }
@@ -25,15 +25,15 @@ first_row-requires c = record { few = few_gaps c.in_ok-kinds.kinds c.args.finger
 pub returns-in-Ok-Some-clause-found : goal.returns-in-Ok-Some-clause-found
 returns-in-Ok-Some-clause-found c =
     let first : IsFirstRow c.in_ok-kinds.kinds c.in-Ok.proof.gaps c.in-Ok-Some.first = rw c.in-Ok-Some.field-0-is at c.in-Ok-Some.ensures.found in
-    subst (λ (z : TrailCertificate). IsTrailFound c.args.fingers.now c.args.budget c.in-Ok-Some.first.row z) (sym c.with_row.ensures) (found_is c.in_ok-kinds.kinds c.args.fingers.now c.args.budget c.in-Ok.proof c.in-Ok-Some.first c.in_ok-kinds.ensures.kinds c.in_ok-kinds.ensures.sound c.in-Ok.ensures.proof first (omega (arith, c.in-Ok.ensures.nodes.few)))
+    subst (λ (z : TrailCertificate). IsTrailFound c.args.fingers.now c.args.budget c.in-Ok-Some.first.row z) (sym c.with_row.ensures) (found_is c.in_ok-kinds.kinds c.args.fingers.now c.args.budget c.in-Ok.proof c.in-Ok-Some.first c.in_ok-kinds.ensures.kinds c.in_ok-kinds.ensures.sound c.in-Ok.ensures.proof first (omega (arith, c.in-Ok.ensures.units.few)))
 
 pub returns-in-Ok-None-clause-stopped : goal.returns-in-Ok-None-clause-stopped
 returns-in-Ok-None-clause-stopped c =
     let need : Need c.in_ok-kinds.kinds (start_of c.in_ok-kinds.kinds) (c.in-Ok.proof.gaps + 1) = rw c.in-Ok-None.field-0-is at c.in-Ok-None.ensures.none in
-    subst (Stops c.args.fingers.now c.args.budget) (sym c.unfinished-in-Ok-None.ensures) (spent_is c.in_ok-kinds.kinds c.args.fingers.now c.args.budget c.in-Ok.proof c.in_ok-kinds.ensures.kinds c.in_ok-kinds.ensures.sound c.in-Ok.ensures.proof (omega (arith, c.in-Ok.ensures.nodes.few)) (inr (most_proved c.in_ok-kinds.kinds c.args.fingers.now c.in-Ok.proof c.requires c.in_ok-kinds.ensures.kinds c.in_ok-kinds.ensures.sound c.in-Ok.ensures.proof c.in-Ok.ensures.most)) (inl (none_as_few c.in_ok-kinds.kinds c.args.fingers.now c.in-Ok.proof.gaps c.in_ok-kinds.ensures.kinds need)))
+    subst (Stops c.args.fingers.now c.args.budget) (sym c.unfinished-in-Ok-None.ensures) (spent_is c.in_ok-kinds.kinds c.args.fingers.now c.args.budget c.in-Ok.proof c.in_ok-kinds.ensures.kinds c.in_ok-kinds.ensures.sound c.in-Ok.ensures.proof (omega (arith, c.in-Ok.ensures.units.few)) (inr (most_proved c.in_ok-kinds.kinds c.args.fingers.now c.in-Ok.proof c.requires c.in_ok-kinds.ensures.kinds c.in_ok-kinds.ensures.sound c.in-Ok.ensures.proof c.in-Ok.ensures.most)) (inl (none_as_few c.in_ok-kinds.kinds c.args.fingers.now c.in-Ok.proof.gaps c.in_ok-kinds.ensures.kinds need)))
 
 pub returns-in-Err-Spent-clause-stopped : goal.returns-in-Err-Spent-clause-stopped
 returns-in-Err-Spent-clause-stopped c =
     let went : AreSearched c.in_ok-kinds.kinds (c.in-Ok.proof.gaps + 1) (c.prove.new.left - c.first_row.new.left) (columns_left c.in_ok-kinds.kinds (start_of c.in_ok-kinds.kinds)) = rw c.in-Err-Spent.field-0-is at c.in-Err-Spent.ensures.spent in
     let spent : c.first_row.new.left ≡ 0 = rw c.in-Err-Spent.field-0-is at c.in-Err-Spent.ensures.halted in
-    subst (Stops c.args.fingers.now c.args.budget) (sym c.unfinished-in-Err-Spent.ensures) (spent_is c.in_ok-kinds.kinds c.args.fingers.now c.args.budget c.in-Ok.proof c.in_ok-kinds.ensures.kinds c.in_ok-kinds.ensures.sound c.in-Ok.ensures.proof (omega (arith, c.in-Ok.ensures.nodes.few)) (inr (most_proved c.in_ok-kinds.kinds c.args.fingers.now c.in-Ok.proof c.requires c.in_ok-kinds.ensures.kinds c.in_ok-kinds.ensures.sound c.in-Ok.ensures.proof c.in-Ok.ensures.most)) (inr (searched_less c.in_ok-kinds.kinds _ (c.prove.new.left - c.first_row.new.left) _ (columns_left c.in_ok-kinds.kinds (start_of c.in_ok-kinds.kinds)) (columns_of c.args.fingers.now) (omega (arith, spent, c.in-Ok.ensures.nodes.many)) (sym (columns_same c.args.fingers.now c.in_ok-kinds.kinds c.in_ok-kinds.ensures.kinds)) went)))
+    subst (Stops c.args.fingers.now c.args.budget) (sym c.unfinished-in-Err-Spent.ensures) (spent_is c.in_ok-kinds.kinds c.args.fingers.now c.args.budget c.in-Ok.proof c.in_ok-kinds.ensures.kinds c.in_ok-kinds.ensures.sound c.in-Ok.ensures.proof (omega (arith, c.in-Ok.ensures.units.few)) (inr (most_proved c.in_ok-kinds.kinds c.args.fingers.now c.in-Ok.proof c.requires c.in_ok-kinds.ensures.kinds c.in_ok-kinds.ensures.sound c.in-Ok.ensures.proof c.in-Ok.ensures.most)) (inr (searched_less c.in_ok-kinds.kinds _ (c.prove.new.left - c.first_row.new.left) _ (columns_left c.in_ok-kinds.kinds (start_of c.in_ok-kinds.kinds)) (columns_of c.args.fingers.now) (omega (arith, spent, c.in-Ok.ensures.units.many)) (sym (columns_same c.args.fingers.now c.in_ok-kinds.kinds c.in_ok-kinds.ensures.kinds)) went)))

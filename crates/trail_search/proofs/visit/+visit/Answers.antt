@@ -1,15 +1,16 @@
-use Rattle.std.proofs.Common.{rules, ◌+◌, ◌-◌, ◌<◌, ◌≤◌, List, ap, arith, length, option_copied, slice_get, subst, sym, take, ◌∙◌}
+use Rattle.std.proofs.Common.{rules, ◌+◌, ◌-◌, ◌<◌, ◌≤◌, List, ap, arith, drop, length, option_copied, slice_get, subst, sym, take, ◌∙◌}
 use Rattle.std.proofs.lemmas.Option.{slice_get_within}
 use Rattle.trail_state.specs.declared.edge.Node.{Node}
 use Rattle.trail_check.specs.Listed.{nodes_of}
 use Rattle.trail_search.specs.Search.{IsStateOf}
+use Rattle.trail_search.specs.Units.{path_units, units_at}
 use Rattle.cell_num.proofs.Lists.{all_at}
 use Rattle.trail_state.specs.declared.level.Level.{Level}
 use Rattle.trail_search.proofs.Grown.{IsChoice, all_fail, choice_at, fails_dear, fails_known, fails_still, further_then, state_behind}
 use Rattle.trail_search.proofs.Ends.{choice_open, leaf_open}
 use Rattle.trail_search.proofs.New.{stay_behind, unknown_still}
 use Rattle.trail_search.proofs.Reached.{within_more, within_then}
-use Rattle.trail_search.proofs.Tied.{tied_behind, tied_still}
+use Rattle.trail_search.proofs.Tied.{path_next, tied_behind, tied_kept, tied_leaf, tied_still, tied_thrown}
 use Rattle.trail_search.proofs.visit.+visit.Goals as goal
 
 pub loop-choice-preserved-then-allowed-settled : goal.loop-choice-preserved-then-allowed-settled
@@ -25,7 +26,7 @@ loop-choice-preserved-then-knows t c =
 pub loop-choice-preserved : goal.loop-choice-preserved
 loop-choice-preserved t c =
     let choice : IsChoice c.in-Some.level.now c.args.state.now c.as_slice-choice-items.result.now c.loop-choice.choice-index c.in_ok-settled.settled.state c.in_ok-settled.settled.ends = choice_at c.in-Some.level.now c.args.state.now c.as_slice-choice-items.result.now c.loop-choice.choice-index c.in_ok-settled.settled.state c.in_ok-settled.settled.ends c.choice-item.result c.as_slice-in-loop-choice-2.result.now c.as_slice.result.now c.as_slice-in-loop-choice.result.now c.loop-choice-test.true c.choice-item.is c.as_slice-in-loop-choice-2.ensures c.as_slice.ensures c.as_slice-in-loop-choice.ensures c.in_ok-settled.ensures.state c.in_ok-settled.ensures.ends in
-    (further_then c.args.levels.now c.args.kept.now c.loop-choice.kept c.visit.new.kept c.loop-choice.invariant.0 c.in-Ok.ensures.further, omega (arith, c.in-Ok.ensures.left, c.loop-choice.invariant.1), fails_known c.visit.new.kept.lemmas c.in-Some.level.now c.args.done c.args.state.now c.in_ok-settled.settled.state c.args.allowed c.in_ok-settled.settled.ends c.as_slice-choice-items.result.now c.loop-choice.choice-index choice c.if-allowed-settled.false (c.in-Ok.ensures.failed c.if-found.false) (fails_still c.args.levels.now c.loop-choice.kept c.visit.new.kept c.in-Some.level.now c.args.done c.args.state.now (c.args.allowed + 1) (take c.loop-choice.choice-index c.as_slice-choice-items.result.now) c.in-Ok.ensures.further c.loop-choice.invariant.2), tied_still c.args.kept.now c.loop-choice.kept c.visit.new.kept c.args.left.now c.loop-choice.left c.visit.new.left c.loop-choice.invariant.3 (c.in-Ok.ensures.each c.if-found.false), stay_behind c.args.done (c.args.allowed + 1) (c.args.allowed - c.in_ok-settled.settled.ends + 1) c.args.kept.now c.loop-choice.kept c.visit.new.kept (omega arith) c.loop-choice.invariant.4 c.in-Ok.ensures.others, within_then c.args.levels.now c.in-Some.level.now c.args.done c.args.state.now c.in_ok-settled.settled.state c.args.allowed c.in_ok-settled.settled.ends c.as_slice-choice-items.result.now c.loop-choice.choice-index c.args.kept.now c.loop-choice.kept c.visit.new.kept (sym c.in-Some.ensures) c.as_slice-choice-items.ensures choice c.if-allowed-settled.false c.loop-choice.invariant.5 c.in-Ok.ensures.within)
+    (further_then c.args.levels.now c.args.kept.now c.loop-choice.kept c.visit.new.kept c.loop-choice.invariant.0 c.in-Ok.ensures.further, omega (arith, c.in-Ok.ensures.left, c.loop-choice.invariant.1), fails_known c.visit.new.kept.lemmas c.in-Some.level.now c.args.done c.args.state.now c.in_ok-settled.settled.state c.args.allowed c.in_ok-settled.settled.ends c.as_slice-choice-items.result.now c.loop-choice.choice-index choice c.if-allowed-settled.false (c.in-Ok.ensures.failed c.if-found.false) (fails_still c.args.levels.now c.loop-choice.kept c.visit.new.kept c.in-Some.level.now c.args.done c.args.state.now (c.args.allowed + 1) (take c.loop-choice.choice-index c.as_slice-choice-items.result.now) c.in-Ok.ensures.further c.loop-choice.invariant.2), tied_still c.args.levels.now c.args.kept.now c.loop-choice.kept c.visit.new.kept (units_at c.args.levels.now c.args.done) c.args.left.now c.loop-choice.left c.visit.new.left c.loop-choice.invariant.3 (c.in-Ok.ensures.each c.if-found.false), stay_behind c.args.done (c.args.allowed + 1) (c.args.allowed - c.in_ok-settled.settled.ends + 1) c.args.kept.now c.loop-choice.kept c.visit.new.kept (omega arith) c.loop-choice.invariant.4 c.in-Ok.ensures.others, within_then c.args.levels.now c.in-Some.level.now c.args.done c.args.state.now c.in_ok-settled.settled.state c.args.allowed c.in_ok-settled.settled.ends c.as_slice-choice-items.result.now c.loop-choice.choice-index c.args.kept.now c.loop-choice.kept c.visit.new.kept (sym c.in-Some.ensures) c.as_slice-choice-items.ensures choice c.if-allowed-settled.false c.loop-choice.invariant.5 c.in-Ok.ensures.within)
 
 pub keep-requires-clause-justified : goal.keep-requires-clause-justified
 keep-requires-clause-justified t c =
@@ -61,9 +62,8 @@ pub returns-in_default-clause-found : goal.returns-in_default-clause-found
 returns-in_default-clause-found t c = λ _. leaf_open c.args.levels.now c.args.done c.args.state.now c.args.allowed (sym c.get.ensures ∙ ap (λ o. option_copied o) c.in_default.is)
 
 pub returns-in-Err-clause-spent_path : goal.returns-in-Err-clause-spent_path
-returns-in-Err-clause-spent_path t c =
-    let within : c.args.done < length c.args.levels.now = slice_get_within c.args.levels.now c.args.done c.in-Some.level.now (sym c.in-Some.ensures) in
-    λ spent. tied_behind c.args.kept.now c.loop-choice.kept c.visit.new.kept c.args.left.now c.loop-choice.left c.visit.new.left (length c.args.levels.now - (c.args.done + 1)) (length c.args.levels.now - c.args.done) c.loop-choice.invariant.3 (c.in-Err.ensures.spent_path spent) (omega (arith, within))
+returns-in-Err-clause-spent_path t c = λ spent.
+    tied_behind c.args.levels.now c.args.kept.now c.loop-choice.kept c.visit.new.kept (units_at c.args.levels.now c.args.done) c.args.left.now c.loop-choice.left c.visit.new.left (path_units (drop (c.args.done + 1) c.args.levels.now)) (path_units (drop c.args.done c.args.levels.now)) c.loop-choice.invariant.3 (c.in-Err.ensures.spent_path spent) (omega (arith, path_next c.args.levels.now c.args.done c.in-Some.level.now (sym c.in-Some.ensures)))
 
 pub returns-then-found-clause-found : goal.returns-then-found-clause-found
 returns-then-found-clause-found t c =
@@ -72,8 +72,23 @@ returns-then-found-clause-found t c =
 
 pub returns-then-found-clause-path : goal.returns-then-found-clause-path
 returns-then-found-clause-path t c =
-    let within : c.args.done < length c.args.levels.now = slice_get_within c.args.levels.now c.args.done c.in-Some.level.now (sym c.in-Some.ensures) in
-    tied_behind c.args.kept.now c.loop-choice.kept c.visit.new.kept c.args.left.now c.loop-choice.left c.visit.new.left (length c.args.levels.now - (c.args.done + 1) + 1) (length c.args.levels.now - c.args.done + 1) c.loop-choice.invariant.3 c.in-Ok.ensures.path (omega (arith, within))
+    tied_behind c.args.levels.now c.args.kept.now c.loop-choice.kept c.visit.new.kept (units_at c.args.levels.now c.args.done) c.args.left.now c.loop-choice.left c.visit.new.left (path_units (drop (c.args.done + 1) c.args.levels.now) + 1) (path_units (drop c.args.done c.args.levels.now) + 1) c.loop-choice.invariant.3 c.in-Ok.ensures.path (omega (arith, path_next c.args.levels.now c.args.done c.in-Some.level.now (sym c.in-Some.ensures)))
+
+pub returns-then-not-take-clause-spent_path : goal.returns-then-not-take-clause-spent_path
+returns-then-not-take-clause-spent_path t c = λ _.
+    tied_thrown c.args.levels.now c.args.kept.now c.args.done c.args.left.now c.take.new.left (c.take.ensures.none c.if-not-take.true) (omega (arith, c.units_at.ensures, c.take.ensures.few c.if-not-take.true))
+
+pub returns-in_default-clause-path : goal.returns-in_default-clause-path
+returns-in_default-clause-path t c =
+    tied_leaf c.args.levels.now c.args.kept.now c.args.done c.args.left.now c.take.new.left (path_units (drop c.args.done c.args.levels.now) + 1) (sym c.get.ensures ∙ ap (λ o. option_copied o) c.in_default.is)
+    (omega (arith, c.units_at.ensures, c.take.ensures.taken c.if-not-take.false))
+    (omega arith)
+
+pub returns-clause-each : goal.returns-clause-each
+returns-clause-each t c = λ _. tied_kept c.args.levels.now c.args.kept.now c.loop-choice.kept c.keep.new.self (units_at c.args.levels.now c.args.done) c.args.left.now c.loop-choice.left 0 c.loop-choice.invariant.3 c.in_ok-keep.ensures.one
+
+pub returns-clause-path : goal.returns-clause-path
+returns-clause-path t c = tied_kept c.args.levels.now c.args.kept.now c.loop-choice.kept c.keep.new.self (units_at c.args.levels.now c.args.done) c.args.left.now c.loop-choice.left (path_units (drop c.args.done c.args.levels.now) + 1) c.loop-choice.invariant.3 c.in_ok-keep.ensures.one
 
 pub keep-requires-clause-new : goal.keep-requires-clause-new
 keep-requires-clause-new t c = unknown_still c.args.done (c.args.allowed + 1) c.args.kept.now c.loop-choice.kept c.args.state.now (c.args.allowed + 1) c.loop-choice.invariant.4 c.requires.new

@@ -1,5 +1,6 @@
 use Rattle.std.proofs.Common.{◌≡◌, ◌≤◌, ◌+◌, ◌-◌, All, length, take}
 use Rattle.trail_search.specs.Search.{IsFurther, StayAs, StayWithin}
+use Rattle.trail_search.specs.Units.{units_at, units_of}
 use Rattle.trail_search.proofs.Grown.{Fails}
 use Rattle.trail_search.proofs.visit.+visit.Given as goal
 
@@ -11,6 +12,6 @@ invariant-loop-choice l =
     IsFurther l.levels l.fn.kept l.kept
     × (l.left ≤ l.fn.left)
     × All (Fails l.kept.lemmas l.level l.done l.state (l.allowed + 1)) (take l.choice-index l.choice-items)
-    × (l.left + length l.kept.lemmas + 1 ≡ l.fn.left + length l.fn.kept.lemmas)
+    × (l.left + units_of l.levels l.kept.lemmas + units_at l.levels l.done ≡ l.fn.left + units_of l.levels l.fn.kept.lemmas)
     × StayAs (l.done + 1) (l.allowed + 1) l.fn.kept l.kept
     × StayWithin l.levels l.done l.state (l.allowed + 1) l.fn.kept l.kept

@@ -1,0 +1,15 @@
+-- The lemmas that functions name, by function.
+use Rattle.trail_search.proofs.Grown.{further_same, further_then}
+use Rattle.trail_search.proofs.Proved.{gate_crowded, is_proof, kept_least, levels_short, none_kept}
+use Rattle.trail_search.proofs.Reached.{within_same}
+use Rattle.trail_search.proofs.Spent.{searched}
+use Rattle.trail_search.proofs.States.{state_first}
+use Rattle.trail_search.proofs.Tried.{first_found, none_found, true_none}
+
+pub ruleset row_from_rules = (true_none, first_found, none_found, searched)
+
+pub ruleset prove_rules = (none_kept, is_proof, levels_short, gate_crowded)
+
+pub ruleset is_refuted_rules = (state_first, none_kept, kept_least, levels_short, gate_crowded)
+
+pub ruleset visit_rules = (further_same, further_then, within_same)
