@@ -72,7 +72,6 @@ solved_too value k f budget log row other best kinds some (j, of_j, some_j, solv
 pub trails_accepted_too : (k : Kinds) (f : Fingers) (trails : TrailCertificate) (gaps : ℕ) (other : List Column) (best : Best) → AreKinds f k → AreSomeKinds k → IsAcceptedByTrails f trails gaps → IsArrangement other f → gaps_of other ≡ gaps → IsBestOf k other best → IsAcceptedByTrails f (trails_listing trails best) gaps
 trails_accepted_too k f trails gaps other best kinds some accepted arranges same is = record {
   gates = record { order = accepted.gates.order; filled = accepted.gates.filled };
-  few_ways = accepted.few_ways;
   justified = accepted.justified;
   passes = passes_by accepted.passes;
 }
@@ -91,6 +90,7 @@ trails_fit_too k trails other best fits is = record { fill = fits.fill; increase
 pub certified_by : (k : Kinds) (f : Fingers) (trails : TrailCertificate) (row other : List Column) (best : Best) → AreKinds f k → AreSomeKinds k → IsCertified k f row trails → IsArrangement other f → gaps_of other ≡ gaps_of row → IsBestOf k other best → IsCertified k f other (trails_listing trails best)
 certified_by k f trails row other best kinds some certified arranges same is = record {
   accepted = subst (IsAcceptedByTrails f (trails_listing trails best)) (sym same) (trails_accepted_too k f trails (gaps_of row) other best kinds some certified.accepted arranges same is);
+  few_ways = certified.few_ways;
   lists = is.columns;
   fits = trails_fit_too k trails other best certified.fits is;
 }

@@ -1,9 +1,10 @@
 -- What making the lowest row results in, from what the searches and the drawing answered.
-use Rattle.std.proofs.Common.{ℕ, ◌≡◌, ◌∙◌, ◌++◌, true, false, Bool, List, Result, IfOk, ap, inr, refl, subst, sym, arith}
+use Rattle.std.proofs.Common.{ℕ, ◌≡◌, ◌≢◌, ◌∙◌, ◌++◌, true, false, Bool, List, Result, IfOk, ap, inl, inr, refl, subst, sym, arith}
 use Rattle.std.proofs.lemmas.Result.{IfOk-weaker}
 use Rattle.cell_num.specs.declared.list.NoMemory.{NoMemory}
 use Rattle.cell_num.specs.declared.net.NetNo.{NetNo}
 use Rattle.row_model.specs.declared.column.Column.{Column}
+use Rattle.row_model.specs.Arrangement.{IsArrangement}
 use Rattle.row_model.specs.Gaps.{gaps_of}
 use Rattle.row_state.specs.declared.kind.Kinds.{Kinds}
 use Rattle.row_state.specs.Component.{component_value}
@@ -21,29 +22,32 @@ use Rattle.call_end.specs.End.{IsEnd, reports}
 use Rattle.call_end.specs.Status.{first_line}
 use Rattle.cell_report.specs.Cells.{fewest_text}
 use Rattle.cell_report.specs.Cycles.{ring_text}
+use Rattle.channel_route.specs.declared.ring.Ring.{Ring}
 use Rattle.channel_route.specs.declared.routing.Routing.{Routing}
 use Rattle.spice_net.specs.declared.subckt.Subckt.{Subckt}
 use Rattle.track_log.specs.declared.certificate.TrackCertificate.{TrackCertificate}
 use Rattle.cell_inputs.specs.declared.style.Taps.{Taps}
 use Rattle.cell_inputs.specs.Inputs.{AreInputs, Inputs}
 use Rattle.cell_make.specs.declared.draw_outcome.DrawOutcome.{DrawOutcome}
-use Rattle.cell_make.specs.declared.draw_outcome.DrawOutcome.TheVariants as came
-use Rattle.cell_make.specs.Low.{DrawsLow, HasFirstLeast, IsLeast, IsLowest, IsTrackEnd, ProvesTracks, low_style}
-use Rattle.cell_make.specs.Rows.{ComesAs, ComesFrom, DrawAnswer, IsThat, IsWired, RowDrawn, RowTall, row_answer}
+use Rattle.cell_make.specs.Low.{DrawsLow, HasFirstLeast, IsLeast, IsLowest, IsOpenRow, IsRinged, ProvesTracks, low_style}
+use Rattle.cell_make.specs.Low.{IsUnwiredEnd as IsUnwired}
+use Rattle.cell_make.specs.Rows.{ComesAs, DrawAnswer, IsThat, IsWired, RowCyclic, row_answer}
 use Rattle.cell_make.proofs.LogFits as log
-pub use Rattle.cell_make.proofs.LowCell.{first_least, first_there}
-use Rattle.cell_make.proofs.LowDrawn.{first_draws, lowest_draws, none_draws}
+use Rattle.cell_make.proofs.LowCell.{first_there}
+pub use Rattle.cell_make.proofs.LowCell.{first_least}
+use Rattle.cell_make.proofs.LowDrawn.{lowest_draws}
+use Rattle.cell_make.proofs.LowOpen.{open_draws}
 use Rattle.cell_commands.specs.declared.certificate.Certificate.{Certificate}
 use Rattle.cell_commands.specs.declared.certificate.Certificate.TheVariants as held
 use Rattle.cell_commands.specs.declared.evidence.RowEvidence.{RowEvidence as EvidenceOf}
 use Rattle.cell_commands.specs.Certificate.{CanBeWritten, row_evidence}
 use Rattle.cell_commands.specs.Evidence.{evidence_files, gate_text, shown}
-use Rattle.cell_commands.specs.Low.{Crowded, Made, MakesLowTo, Open, Unwired, low_evidence, track_files}
-use Rattle.cell_commands.specs.LowEnds.{IsFirstEnd}
-use Rattle.cell_commands.specs.Make.{IsOpenEnd}
+use Rattle.cell_commands.specs.Low.{Crowded, IsLowCertifiedBy, Made, MakesLowTo, Open, Unwired, low_evidence, track_files}
+use Rattle.cell_commands.specs.LowEnds.{IsRingEnd}
+use Rattle.cell_commands.specs.Make.{IsDrawnTo, IsOpenEnd}
 use Rattle.cell_commands.specs.RowEnd.{IsRowEnd, RowEvidence}
-use Rattle.cell_commands.proofs.Ended.{crowded_end}
-use Rattle.cell_commands.specs.Relisted.{IsFoundFor, IsFoundForSome, ListsInstead, kind_of, listing}
+use Rattle.cell_commands.proofs.Ended.{crowded_end, found_fits}
+use Rattle.cell_commands.specs.Relisted.{IsFoundFor, ListsInstead, kind_of, listing}
 use Rattle.cell_commands.specs.Searched.{Crowds, IsCertifiedBy, IsFoundBy, IsOpenBy}
 
 -- ---- what is found
@@ -64,8 +68,8 @@ found_first Trails inputs row (held.Trails found) is = is.first
 found_first Log inputs row (held.Trails found) is = absurd is
 found_first Trails inputs row (held.Log found) is = absurd is
 
-pub found_there : (inputs : Inputs) (certificate : Certificate) → AreInputs inputs → IsFoundForSome inputs certificate → HasFirstLeast inputs
-found_there inputs certificate are (row, is) = first_there inputs row are (found_first (kind_of certificate) inputs row certificate is)
+pub found_there : (inputs : Inputs) (row : List Column) (certificate : Certificate) → AreInputs inputs → IsFoundFor inputs row certificate → HasFirstLeast inputs
+found_there inputs row certificate are is = first_there inputs row are (found_first (kind_of certificate) inputs row certificate is)
 
 pub found_certified : (evidence : Evidence) (inputs : Inputs) (row : List Column) (certificate : Certificate) → IsFoundBy evidence inputs row certificate → IsCertifiedBy evidence inputs row certificate
 found_certified Log inputs row (held.Log found) is = is.certified
@@ -93,17 +97,33 @@ listed_by inputs row other (held.Log found) k best is least of_k some_k lists =
 listed_by inputs row other (held.Trails found) k best is least of_k some_k lists =
     certified_too k inputs.fingers found row other best of_k some_k is.certified least.arranges (same_gaps inputs row other (first_least inputs row is.first) least) lists
 
-pub relisted_certified : (inputs : Inputs) (row other : List Column) (certificate relisted : Certificate) → IsFoundFor inputs row certificate → IsLeast inputs.fingers other → ListsInstead inputs other certificate relisted → IsCertifiedBy (kind_of certificate) inputs other relisted
+relisted_certified : (inputs : Inputs) (row other : List Column) (certificate relisted : Certificate) → IsFoundFor inputs row certificate → IsLeast inputs.fingers other → ListsInstead inputs other certificate relisted → IsCertifiedBy (kind_of certificate) inputs other relisted
 relisted_certified inputs row other certificate relisted is least (k, of_k, some_k, (best, lists, same)) =
     subst (IsCertifiedBy (kind_of certificate) inputs other) (sym same) (listed_by inputs row other certificate k best is least of_k some_k lists)
-
--- where it was found for some row
-pub relisted_for : (inputs : Inputs) (other : List Column) (certificate relisted : Certificate) → IsFoundForSome inputs certificate → IsLeast inputs.fingers other → ListsInstead inputs other certificate relisted → IsCertifiedBy (kind_of certificate) inputs other relisted
-relisted_for inputs other certificate relisted (row, is) least lists = relisted_certified inputs row other certificate relisted is least lists
 
 pub lists_instead : (inside inputs : Inputs) (row : List Column) (certificate other : Certificate) (k : Kinds) (best : Best) → inside ≡ inputs → AreKinds inside.fingers k → AreSomeKinds k → IsBestOf k row best → other ≡ listing certificate best → ListsInstead inputs row certificate other
 lists_instead inside inputs row certificate other k best same of_k some_k lists is =
     subst (λ (i : Inputs). ListsInstead i row certificate other) same (k, of_k, some_k, (best, lists, is))
+
+-- ---- the certificate beside a row that can be wired
+
+-- a row with as many gaps as a least one is a least one
+as_least : (inputs : Inputs) (row other : List Column) → IsLeast inputs.fingers row → IsArrangement other inputs.fingers → gaps_of other ≡ gaps_of row → IsLeast inputs.fingers other
+as_least inputs row other least arranged same = record { arranges = arranged; least = λ third o. omega (arith, same, least.least third o) }
+
+pub beside_listed : (inputs : Inputs) (least row : List Column) (certificate : Certificate) (r : Result Certificate NoMemory) → IsFoundFor inputs least certificate → IsArrangement row inputs.fingers → gaps_of row ≡ gaps_of least → IfOk r (ListsInstead inputs row certificate) → IfOk r (IsLowCertifiedBy (kind_of certificate) inputs row)
+beside_listed inputs least row certificate r is arranged same lists =
+    let as_few : IsLeast inputs.fingers row = as_least inputs least row (first_least inputs least (found_first (kind_of certificate) inputs least certificate is)) arranged same in
+    IfOk-weaker r (ListsInstead inputs row certificate) (IsLowCertifiedBy (kind_of certificate) inputs row) (λ relisted l. inl (relisted_certified inputs least row certificate relisted is as_few l)) lists
+
+pub beside_more : (inputs : Inputs) (least row : List Column) (certificate : Certificate) → IsFoundFor inputs least certificate → IsArrangement row inputs.fingers → gaps_of row ≢ gaps_of least → IsLowCertifiedBy (kind_of certificate) inputs row certificate
+beside_more inputs least row certificate is arranged differ =
+    let first : IsFirstLeast inputs.fingers least = found_first (kind_of certificate) inputs least certificate is in
+    inr (least, omega (arith, differ, first.least row arranged), is)
+
+pub low_fits : (evidence : Evidence) (inputs : Inputs) (row : List Column) (certificate : Certificate) → IsLowCertifiedBy evidence inputs row certificate → CanBeWritten certificate
+low_fits evidence inputs row certificate (inl is) = certified_fits evidence inputs row certificate is
+low_fits evidence inputs row certificate (inr (least, more, is)) = found_fits evidence inputs least certificate is
 
 -- ---- the evidence
 
@@ -122,38 +142,37 @@ evidence_shown cell out certificate tracks of_row files fewest is more counted =
 pub evidence_of : (inside inputs : Inputs) (out : List ℕ) (certificate : Certificate) (tracks : TrackCertificate) (told : RowEvidence) → inside ≡ inputs → told ≡ low_evidence inside.cell out certificate tracks → told ≡ low_evidence inputs.cell out certificate tracks
 evidence_of inside inputs out certificate tracks told same is = subst (λ (i : Inputs). told ≡ low_evidence i.cell out certificate tracks) same is
 
--- a row that is drawn, or too tall, or has a ring where no least row is wired
-row_made : (evidence : Evidence) (taps : Taps) (inputs : Inputs) (out : List ℕ) (row : List Column) (certificate : Certificate) (tracks : TrackCertificate) (answer : DrawAnswer) (told : RowEvidence) (end : End) → told ≡ low_evidence inputs.cell out certificate tracks → ProvesTracks inputs tracks → IsCertifiedBy evidence inputs row certificate → HasFirstLeast inputs → DrawsLow (low_style taps) inputs row tracks answer → IsRowEnd (low_style taps) inputs out row told answer end → MakesLowTo evidence taps inputs out end
+row_made : (evidence : Evidence) (taps : Taps) (inputs : Inputs) (out : List ℕ) (row : List Column) (certificate : Certificate) (tracks : TrackCertificate) (answer : DrawAnswer) (told : RowEvidence) (end : End) → told ≡ low_evidence inputs.cell out certificate tracks → ProvesTracks inputs tracks → IsLowCertifiedBy evidence inputs row certificate → HasFirstLeast inputs → DrawsLow (low_style taps) inputs row tracks answer → IsRowEnd (low_style taps) inputs out row told answer end → MakesLowTo evidence taps inputs out end
 row_made evidence taps inputs out row certificate tracks answer told end is proves certified there draws ends =
     (Made row certificate tracks answer, (proves, certified, there, draws), subst (λ (t : RowEvidence). IsRowEnd (low_style taps) inputs out row t answer end) is ends)
 
-pub lowest_made : (evidence : Evidence) (taps : Taps) (inputs : Inputs) (out : List ℕ) (row drawn : List Column) (certificate : Certificate) (tracks : TrackCertificate) (routing : Routing) (came : DrawOutcome) (told : RowEvidence) (r : Result End NoMemory) → drawn ≡ row → told ≡ low_evidence inputs.cell out certificate tracks → ProvesTracks inputs tracks → IsCertifiedBy evidence inputs row certificate → HasFirstLeast inputs → IsLowest inputs row routing tracks.tracks → IsWired came → ComesAs (IsThat routing) (low_style taps) inputs row came → IfOk r (IsRowEnd (low_style taps) inputs out drawn told (row_answer came)) → IfOk r (MakesLowTo evidence taps inputs out)
+pub lowest_made : (evidence : Evidence) (taps : Taps) (inputs : Inputs) (out : List ℕ) (row drawn : List Column) (certificate : Certificate) (tracks : TrackCertificate) (routing : Routing) (came : DrawOutcome) (told : RowEvidence) (r : Result End NoMemory) → drawn ≡ row → told ≡ low_evidence inputs.cell out certificate tracks → ProvesTracks inputs tracks → IsLowCertifiedBy evidence inputs row certificate → HasFirstLeast inputs → IsLowest inputs row routing tracks → IsWired came → ComesAs (IsThat routing) (low_style taps) inputs row came → IfOk r (IsRowEnd (low_style taps) inputs out drawn told (row_answer came)) → IfOk r (MakesLowTo evidence taps inputs out)
 lowest_made evidence taps inputs out row drawn certificate tracks routing came told r same is proves certified there lowest wired comes ends =
     IfOk-weaker r (IsRowEnd (low_style taps) inputs out row told (row_answer came)) (MakesLowTo evidence taps inputs out)
     (λ end e. row_made evidence taps inputs out row certificate tracks (row_answer came) told end is proves certified there (lowest_draws (low_style taps) inputs row tracks routing came lowest wired comes) e)
     (subst (λ (columns : List Column). IfOk r (IsRowEnd (low_style taps) inputs out columns told (row_answer came))) same ends)
 
--- the first row, by why the search for the lowest one is open
-first_made : (evidence : Evidence) (taps : Taps) (inputs : Inputs) (out : List ℕ) (row : List Column) (certificate : Certificate) (tracks : TrackCertificate) (none_wired : Bool) (of : DrawOutcome) (told : RowEvidence) (end : End) → told ≡ low_evidence inputs.cell out certificate tracks → ProvesTracks inputs tracks → HasFirstLeast inputs → IsTrackEnd inputs tracks none_wired → IsFoundBy evidence inputs row certificate → ComesFrom (low_style taps) inputs row of → IsFirstEnd (low_style taps) inputs out row told tracks.tracks none_wired (row_answer of) end → MakesLowTo evidence taps inputs out end
-first_made evidence taps inputs out row certificate tracks true of told end is proves there none found comes ends =
-    row_made evidence taps inputs out row certificate tracks (row_answer of) told end is proves (found_certified evidence inputs row certificate found) there
-    (none_draws (low_style taps) inputs row tracks of (found_first evidence inputs row certificate found) none comes) ends
-first_made evidence taps inputs out row certificate tracks false (came.Drawn placement routing drawn) told end is proves there spent found comes ends =
-    row_made evidence taps inputs out row certificate tracks (RowDrawn routing drawn.lines) told end is proves (found_certified evidence inputs row certificate found) there
-    (first_draws (low_style taps) inputs row tracks (came.Drawn placement routing drawn) (found_first evidence inputs row certificate found) (inr spent) tt comes) ends
-first_made evidence taps inputs out row certificate tracks false (came.Tall placement routing needed given) told end is proves there spent found comes ends =
-    row_made evidence taps inputs out row certificate tracks (RowTall routing) told end is proves (found_certified evidence inputs row certificate found) there
-    (first_draws (low_style taps) inputs row tracks (came.Tall placement routing needed given) (found_first evidence inputs row certificate found) (inr spent) tt comes) ends
-first_made evidence taps inputs out row certificate tracks false (came.Cyclic placement ring) told end is proves there spent found comes ends = (
+-- the first row that can be wired with the fewest gaps
+pub wired_made : (evidence : Evidence) (taps : Taps) (inputs : Inputs) (out : List ℕ) (least row : List Column) (certificate : Certificate) (tracks : TrackCertificate) (told : RowEvidence) (r : Result End NoMemory) → told ≡ low_evidence inputs.cell out certificate tracks → ProvesTracks inputs tracks → IsLowCertifiedBy evidence inputs row certificate → HasFirstLeast inputs → IsFirstLeast inputs.fingers least → IsOpenRow inputs least row tracks → IfOk r (IsDrawnTo (low_style taps) inputs out row told) → IfOk r (MakesLowTo evidence taps inputs out)
+wired_made evidence taps inputs out least row certificate tracks told r is proves certified there first open' ends =
+    IfOk-weaker r (IsDrawnTo (low_style taps) inputs out row told) (MakesLowTo evidence taps inputs out)
+    (λ end (answer, draws, e). row_made evidence taps inputs out row certificate tracks answer told end is proves certified there (open_draws taps inputs least row tracks answer first open' draws) e) ends
+
+-- the cycle of the first least row, by why no row that can be wired is known
+ring_made : (evidence : Evidence) (taps : Taps) (inputs : Inputs) (out : List ℕ) (row : List Column) (certificate : Certificate) (tracks : TrackCertificate) (none_wired : Bool) (ring : Ring) (told : RowEvidence) (end : End) → told ≡ low_evidence inputs.cell out certificate tracks → ProvesTracks inputs tracks → HasFirstLeast inputs → IsFoundBy evidence inputs row certificate → IsUnwired inputs tracks none_wired → IsRinged inputs row ring → IsRingEnd inputs told none_wired ring end → MakesLowTo evidence taps inputs out end
+ring_made evidence taps inputs out row certificate tracks true ring told end is proves there found none ringed ends =
+    row_made evidence taps inputs out row certificate tracks (RowCyclic ring) told end is proves (inl (found_certified evidence inputs row certificate found)) there
+    (ringed.told, (found_first evidence inputs row certificate found, none)) ends
+ring_made evidence taps inputs out row certificate tracks false ring told end is proves there found spent ringed ends = (
   Unwired row certificate tracks ring,
-  (proves, spent, found, comes.draws),
-  subst (λ (t : RowEvidence). IsEnd status.Unfinished t.files (first_line status.Unfinished ++ fewest_text tracks.tracks ++ ring_text inputs.cell.nets ring) end) is ends,
+  (proves, spent, found, ringed),
+  subst (λ (t : RowEvidence). IsEnd status.Unfinished t.files (first_line status.Unfinished ++ fewest_text 0 ++ ring_text inputs.cell.nets ring) end) is ends,
 )
 
-pub first_ends : (evidence : Evidence) (taps : Taps) (inputs : Inputs) (out : List ℕ) (row : List Column) (certificate : Certificate) (tracks : TrackCertificate) (none_wired : Bool) (of : DrawOutcome) (told : RowEvidence) (r : Result End NoMemory) → told ≡ low_evidence inputs.cell out certificate tracks → ProvesTracks inputs tracks → HasFirstLeast inputs → IsTrackEnd inputs tracks none_wired → IsFoundBy evidence inputs row certificate → ComesFrom (low_style taps) inputs row of → IfOk r (IsFirstEnd (low_style taps) inputs out row told tracks.tracks none_wired (row_answer of)) → IfOk r (MakesLowTo evidence taps inputs out)
-first_ends evidence taps inputs out row certificate tracks none_wired of told r is proves there end_of found comes ends =
-    IfOk-weaker r (IsFirstEnd (low_style taps) inputs out row told tracks.tracks none_wired (row_answer of)) (MakesLowTo evidence taps inputs out)
-    (λ end e. first_made evidence taps inputs out row certificate tracks none_wired of told end is proves there end_of found comes e) ends
+pub ring_ends : (evidence : Evidence) (taps : Taps) (inputs : Inputs) (out : List ℕ) (row : List Column) (certificate : Certificate) (tracks : TrackCertificate) (none_wired : Bool) (ring : Ring) (told : RowEvidence) (r : Result End NoMemory) → told ≡ low_evidence inputs.cell out certificate tracks → ProvesTracks inputs tracks → HasFirstLeast inputs → IsFoundBy evidence inputs row certificate → IsUnwired inputs tracks none_wired → IsRinged inputs row ring → IfOk r (IsRingEnd inputs told none_wired ring) → IfOk r (MakesLowTo evidence taps inputs out)
+ring_ends evidence taps inputs out row certificate tracks none_wired ring told r is proves there found unwired ringed ends =
+    IfOk-weaker r (IsRingEnd inputs told none_wired ring) (MakesLowTo evidence taps inputs out)
+    (λ end e. ring_made evidence taps inputs out row certificate tracks none_wired ring told end is proves there found unwired ringed e) ends
 
 -- ---- without a row
 

@@ -1,5 +1,5 @@
 -- The end of a row, from what drawing it resulted in.
-use Rattle.std.proofs.Common.{ℕ, ◌≡◌, ◌<◌, ◌⊎◌, ◌++◌, true, false, Bool, List, Result, IfOk, length, inl, inr, string_bytes, subst, sym}
+use Rattle.std.proofs.Common.{ℕ, ◌≡◌, ◌<◌, ◌++◌, true, false, Bool, List, Result, IfOk, length, string_bytes, subst, sym}
 use Rattle.cell_num.specs.declared.list.NoMemory.{NoMemory}
 use Rattle.row_model.specs.declared.column.Column.{Column}
 use Rattle.channel_route.specs.declared.ring.Ring.{Ring}
@@ -8,14 +8,13 @@ use Rattle.row_place.specs.declared.placement.Placement.{Placement}
 use Rattle.cell_draw.specs.declared.cell.TheConstants.{MOST_SHAPES}
 use Rattle.cell_draw.specs.declared.drawing.Drawing.{Drawing}
 use Rattle.gds_read.specs.RoundTrip.{IsReadable}
-use Rattle.spice_net.specs.declared.subckt.Subckt.{Subckt}
 use Rattle.cell_inputs.specs.declared.style.Style.{Style}
 use Rattle.cell_inputs.specs.Inputs.{Inputs, unit_nm}
 use Rattle.cell_make.specs.declared.drawn.Drawn.{Drawn}
 use Rattle.cell_make.specs.declared.draw_outcome.DrawOutcome.{DrawOutcome}
 use Rattle.cell_make.specs.declared.draw_outcome.DrawOutcome.TheVariants as came
 use Rattle.cell_make.specs.Making.{drawing_in, final_of}
-use Rattle.cell_make.specs.Rows.{CanRowBeWritten, IsRowDrawnBy, IsWired, RowDrawn, row_answer}
+use Rattle.cell_make.specs.Rows.{CanRowBeWritten, IsRowDrawnBy, RowDrawn, row_answer}
 use Rattle.cell_make.specs.Style.{final, tapped_by}
 use Rattle.cell_make.proofs.Finals.{final_is}
 use Rattle.cell_report.specs.Cells.{fewest_text, tall_text}
@@ -26,7 +25,7 @@ use Rattle.call_end.specs.declared.status.Status.TheVariants as status
 use Rattle.call_end.specs.Status.{first_line}
 use Rattle.cell_commands.specs.declared.evidence.RowEvidence.{RowEvidence}
 use Rattle.cell_commands.specs.Evidence.{evidence_files, shown}
-use Rattle.cell_commands.specs.LowEnds.{IsFirstEnd}
+use Rattle.cell_commands.specs.LowEnds.{IsRingEnd}
 use Rattle.cell_commands.specs.RowEnd.{IsDrawnEnd, IsRowEnd, RowEvidence as EvidenceOf, one_file}
 use Rattle.call_end.specs.End.{IsEnd, named}
 use Rattle.cell_commands.proofs.MakeEnds.{file_is}
@@ -84,18 +83,15 @@ tall_ends style inputs out row evidence outcome placement routing needed given r
     (subst (λ n. report ≡ first_line status.TooTall ++ evidence.fewest ++ tall_text n inputs.tech.height) needs
     (subst (λ h. report ≡ first_line status.TooTall ++ evidence.fewest ++ tall_text needed h) has told)) ends)
 
--- a ring leaves an open search for the lowest row unfinished
-pub open_ends : (style : Style) (inputs inside : Inputs) (out : List ℕ) (row : List Column) (evidence : RowEvidence) (fewest : ℕ) (none_wired : Bool) (outcome : DrawOutcome) (placement : Placement) (ring : Ring) (report : List ℕ) (end : End) → inside ≡ inputs → none_wired ≡ false → outcome ≡ came.Cyclic placement ring → report ≡ first_line status.Unfinished ++ fewest_text fewest ++ ring_text inside.cell.nets ring → IsEnd status.Unfinished (evidence_files evidence.files) report end → IsFirstEnd style inputs out row (shown evidence) fewest none_wired (row_answer outcome) end
-open_ends style inputs inside out row evidence fewest none_wired outcome placement ring report end same wired is told ends =
-    subst (λ (b : Bool). IsFirstEnd style inputs out row (shown evidence) fewest b (row_answer outcome) end) (sym wired)
-    (subst (λ (o : DrawOutcome). IsFirstEnd style inputs out row (shown evidence) fewest false (row_answer o) end) (sym is)
-    (subst (λ (text : List ℕ). IsEnd status.Unfinished (evidence_files evidence.files) text end)
-    (subst (λ (i : Inputs). report ≡ first_line status.Unfinished ++ fewest_text fewest ++ ring_text i.cell.nets ring) same told) ends))
+-- the cycle of the first least row where no row can be wired, and where the search for one is open
+pub none_ends : (inputs inside : Inputs) (evidence : RowEvidence) (none_wired : Bool) (ring : Ring) (report : List ℕ) (end : End) → inside ≡ inputs → none_wired ≡ true → report ≡ first_line status.Cycle ++ ring_text inside.cell.nets ring → IsEnd status.Cycle (evidence_files evidence.files) report end → IsRingEnd inputs (shown evidence) none_wired ring end
+none_ends inputs inside evidence none_wired ring report end same none told ends =
+    subst (λ (b : Bool). IsRingEnd inputs (shown evidence) b ring end) (sym none)
+    (subst (λ (text : List ℕ). IsEnd status.Cycle (evidence_files evidence.files) text end)
+    (subst (λ (i : Inputs). report ≡ first_line status.Cycle ++ ring_text i.cell.nets ring) same told) ends)
 
--- where no least row is wired, or this one is, its end is that of any row
-pub wired_ends : (style : Style) (inputs : Inputs) (out : List ℕ) (row : List Column) (evidence : EvidenceOf) (fewest : ℕ) (none_wired : Bool) (outcome : DrawOutcome) (end : End) → (none_wired ≡ true) ⊎ IsWired outcome → IsRowEnd style inputs out row evidence (row_answer outcome) end → IsFirstEnd style inputs out row evidence fewest none_wired (row_answer outcome) end
-wired_ends style inputs out row evidence fewest true outcome end wired ends = ends
-wired_ends style inputs out row evidence fewest false (came.Drawn placement routing drawn) end wired ends = ends
-wired_ends style inputs out row evidence fewest false (came.Cyclic placement ring) end (inl none) ends = cc
-wired_ends style inputs out row evidence fewest false (came.Cyclic placement ring) end (inr wired) ends = absurd wired
-wired_ends style inputs out row evidence fewest false (came.Tall placement routing needed given) end wired ends = ends
+pub open_ends : (inputs inside : Inputs) (evidence : RowEvidence) (none_wired : Bool) (ring : Ring) (report : List ℕ) (end : End) → inside ≡ inputs → none_wired ≡ false → report ≡ first_line status.Unfinished ++ fewest_text 0 ++ ring_text inside.cell.nets ring → IsEnd status.Unfinished (evidence_files evidence.files) report end → IsRingEnd inputs (shown evidence) none_wired ring end
+open_ends inputs inside evidence none_wired ring report end same spent told ends =
+    subst (λ (b : Bool). IsRingEnd inputs (shown evidence) b ring end) (sym spent)
+    (subst (λ (text : List ℕ). IsEnd status.Unfinished (evidence_files evidence.files) text end)
+    (subst (λ (i : Inputs). report ≡ first_line status.Unfinished ++ fewest_text 0 ++ ring_text i.cell.nets ring) same told) ends)

@@ -1,5 +1,5 @@
 -- What a check of some bytes comes to, from what the reader and the checker of certificates answered.
-use Rattle.std.proofs.Common.{ℕ, ◌≡◌, ◌≢◌, List, [], Result, Ok, Err, IfOk, refl, sym, subst, arith}
+use Rattle.std.proofs.Common.{ℕ, ◌≡◌, ◌≢◌, ◌⊎◌, List, [], Result, Ok, Err, IfOk, inl, inr, refl, sym, subst, arith}
 use Rattle.std.specs.Prelude.{MatchOption}
 use Rattle.cell_num.specs.declared.list.NoMemory.{NoMemory}
 use Rattle.row_model.specs.declared.column.Column.{Column}
@@ -16,13 +16,13 @@ use Rattle.trail_log.specs.Reading.{trails_of}
 use Rattle.trail_log.specs.Text.{trails_text}
 use Rattle.trail_check.specs.declared.refusal.TrailRefusal.{TrailRefusal}
 use Rattle.trail_check.specs.declared.refusal.TrailRefusal.TheVariants as because
-use Rattle.trail_check.specs.Accepted.{IsAccepted, IsLow, least_gaps}
-use Rattle.trail_check.specs.Refusal.{Refuses}
-use Rattle.trail_check.proofs.Refusals.{not_both}
+use Rattle.trail_check.specs.Accepted.{IsAccepted, IsLow, IsNeverAccepted, least_gaps}
+use Rattle.trail_check.specs.Gates.{HasFewWays}
+use Rattle.trail_check.specs.Refusal.{IsFault}
 use Rattle.call_end.specs.declared.end.End.{End}
 use Rattle.call_end.specs.declared.status.Status.TheVariants as status
 use Rattle.cell_inputs.specs.Inputs.{Inputs}
-use Rattle.cell_commands.specs.TrailCheck.{Checks, HoldsAccepted, IsListed, TrailChecksTo}
+use Rattle.cell_commands.specs.TrailCheck.{Checks, HoldsAccepted, HoldsCrowded, HoldsRefused, IsListed, TrailChecksTo}
 use Rattle.cell_commands.specs.Judged.{Judges}
 use Rattle.cell_commands.specs.declared.trail_checking.TrailAnswer.{TrailAnswer}
 use Rattle.cell_commands.specs.declared.trail_checking.TrailAnswer.TheVariants.{Accepted, Misread, Rejected}
@@ -36,15 +36,18 @@ pub record AreTextOf (inputs : Inputs) (bytes : List ℕ) (k : Kinds) (trails : 
   pub text : bytes ≡ trails_text inputs.cell.name trails
   pub one : (other : TrailCertificate) → TrailsFit k other → trails_text inputs.cell.name other ≡ bytes → other ≡ trails
 
-rejected : (inputs : Inputs) (bytes : List ℕ) (k : Kinds) (trails : TrailCertificate) (cause : TrailRefusal) → AreTextOf inputs bytes k trails → cause ≢ because.NoMemory → Refuses inputs.fingers trails cause → HoldsAccepted inputs bytes → ⊥
-rejected inputs bytes k trails cause is other refuses (gaps, lemmas, filled, (j, of_j, some_j, holds)) =
-    let fits : TrailsFit k holds.trails = for_kinds inputs.fingers j (λ kinds. TrailsFit kinds holds.trails) of_j some_j holds.fits k is.kinds is.some_kinds in
+-- a certificate that is accepted with no gaps has no text that an accepted one has
+rejected : (inputs : Inputs) (bytes : List ℕ) (k : Kinds) (trails : TrailCertificate)
+    → AreTextOf inputs bytes k trails → IsNeverAccepted inputs.fingers trails → HoldsAccepted inputs bytes → ⊥
+rejected inputs bytes k trails is never (gaps, lemmas, filled, (j, of_j, some_j, holds)) =
+    let fits : TrailsFit k holds.trails =
+    for_kinds inputs.fingers j (λ kinds. TrailsFit kinds holds.trails) of_j some_j holds.fits k is.kinds is.some_kinds in
     let same : holds.trails ≡ trails = is.one holds.trails fits (sym holds.text) in
-    not_both inputs.fingers trails gaps cause (subst (λ (t : TrailCertificate). IsAccepted inputs.fingers t gaps) same holds.accepted) refuses other
+    never gaps (subst (λ (t : TrailCertificate). IsAccepted inputs.fingers t gaps) same holds.accepted)
 
 -- the row that the certificate lists, by kinds of the fingers
-listed : (inputs : Inputs) (bytes : List ℕ) (k : Kinds) (trails : TrailCertificate) (row : List Column) (gaps : ℕ) → AreTextOf inputs bytes k trails → IsLow inputs.fingers gaps → IsAccepted inputs.fingers trails gaps → MatchOption trails.best (row ≡ []) (λ best. row ≡ columns_listed k best.steps) → IsListed inputs bytes row trails
-listed inputs bytes k trails row gaps is low accepted columns = by_kinds accepted.passes
+listed : (inputs : Inputs) (bytes : List ℕ) (k : Kinds) (trails : TrailCertificate) (row : List Column) (gaps : ℕ) → AreTextOf inputs bytes k trails → IsLow inputs.fingers gaps → IsAccepted inputs.fingers trails gaps → HasFewWays inputs.fingers trails → MatchOption trails.best (row ≡ []) (λ best. row ≡ columns_listed k best.steps) → IsListed inputs bytes row trails
+listed inputs bytes k trails row gaps is low accepted few columns = by_kinds accepted.passes
   where
     by_kinds : WithKinds inputs.fingers (λ j. BestPasses j inputs.fingers (least_gaps inputs.fingers trails) trails.best gaps) → IsListed inputs bytes row trails
     by_kinds (j, of_j, some_j, passed) =
@@ -54,18 +57,21 @@ listed inputs bytes k trails row gaps is low accepted columns = by_kinds accepte
           arranges = arranges;
           least = λ other arranged. omega (arith, low other arranged, same);
           text = is.text;
-          listed = (k, is.kinds, is.some_kinds, record { accepted = subst (IsAccepted inputs.fingers trails) same accepted; lists = lists; fits = is.fits });
+          listed = (k, is.kinds, is.some_kinds, record { accepted = subst (IsAccepted inputs.fingers trails) same accepted; few_ways = few; lists = lists; fits = is.fits });
         }
 
 judged : (inputs : Inputs) (bytes : List ℕ) (k : Kinds) (trails : TrailCertificate) (answer : TrailAnswer) → AreTextOf inputs bytes k trails → Judges inputs.fingers k trails answer → Checks inputs bytes answer
-judged inputs bytes k trails (Accepted row gaps lemmas filled) is (low, accepted, many, full, columns) = (
+judged inputs bytes k trails (Accepted row gaps lemmas filled) is (low, accepted, few, many, full, columns) = (
   low,
   (k, is.kinds, is.some_kinds, record { trails = trails; fits = is.fits; text = is.text; accepted = accepted; lemmas_are = many; filled_are = full }),
-  (trails, listed inputs bytes k trails row gaps is low accepted columns, many, full),
+  (trails, listed inputs bytes k trails row gaps is low accepted few columns, many, full),
 )
 judged inputs bytes k trails (Misread f) is judges = absurd judges
-judged inputs bytes k trails (Rejected cause) is (other, refuses) =
-    (other, (k, is.kinds, is.some_kinds, (trails, is.read, refuses)), rejected inputs bytes k trails cause is other refuses)
+judged inputs bytes k trails (Rejected cause) is (other, refuses, never) = (
+  other,
+  (k, is.kinds, is.some_kinds, (trails, is.read, refuses)),
+  λ fault. rejected inputs bytes k trails is (never fault),
+)
 
 pub judged_checks : (inputs : Inputs) (bytes : List ℕ) (k : Kinds) (trails : TrailCertificate) (r : Result TrailAnswer NoMemory) → AreTextOf inputs bytes k trails → IfOk r (Judges inputs.fingers k trails) → IfOk r (Checks inputs bytes)
 judged_checks inputs bytes k trails (Ok answer) is judges = judged inputs bytes k trails answer is judges
@@ -87,7 +93,23 @@ done_holds inputs bytes end (Accepted row gaps lemmas filled, (least, text, list
 done_holds inputs bytes end (Misread f, h, is) done = cc
 done_holds inputs bytes end (Rejected cause, h, is) done = cc
 
-pub holds_done : (inputs : Inputs) (bytes : List ℕ) (end : End) → HoldsAccepted inputs bytes → TrailChecksTo inputs bytes end → end.status ≡ status.Done
-holds_done inputs bytes end holds (Accepted row gaps lemmas filled, h, is) = rw is refl
+-- an accepted certificate is refused for a gate with too many ways alone
+is_crowded : (inputs : Inputs) (bytes : List ℕ) (cause : TrailRefusal)
+    → cause ≢ because.NoMemory → WithKinds inputs.fingers (HoldsRefused inputs bytes cause)
+    → (IsFault cause → HoldsAccepted inputs bytes → ⊥) → HoldsAccepted inputs bytes → HoldsCrowded inputs bytes
+is_crowded inputs bytes (because.Choices gate) other wrong none holds = (gate, wrong)
+is_crowded inputs bytes because.NoMemory other wrong none holds = absurd (other refl)
+is_crowded inputs bytes because.Gates other wrong none holds = absurd (none tt holds)
+is_crowded inputs bytes (because.Unproved line) other wrong none holds = absurd (none tt holds)
+is_crowded inputs bytes (because.NoRow best) other wrong none holds = absurd (none tt holds)
+is_crowded inputs bytes because.NotArrangement other wrong none holds = absurd (none tt holds)
+is_crowded inputs bytes (because.Gaps said counted) other wrong none holds = absurd (none tt holds)
+is_crowded inputs bytes (because.NotLeast best said) other wrong none holds = absurd (none tt holds)
+
+pub holds_done : (inputs : Inputs) (bytes : List ℕ) (end : End)
+    → HoldsAccepted inputs bytes → TrailChecksTo inputs bytes end
+    → (end.status ≡ status.Done) ⊎ HoldsCrowded inputs bytes
+holds_done inputs bytes end holds (Accepted row gaps lemmas filled, h, is) = inl (rw is refl)
 holds_done inputs bytes end holds (Misread f, (other, wrong, none), is) = absurd (none holds)
-holds_done inputs bytes end holds (Rejected cause, (other, wrong, none), is) = absurd (none holds)
+holds_done inputs bytes end holds (Rejected cause, (other, wrong, none), is) =
+    inr (is_crowded inputs bytes cause other wrong none holds)

@@ -1,8 +1,9 @@
--- What `make` with `--low` results in: of all least rows the first on the fewest tracks, or the first one of all.
-use Rattle.std.specs.Prelude.{ℕ, ◌==◌, List, [], ◌∷◌, ◌++◌, codes, if◌then◌else◌}
+-- What `make` with `--low` results in: of all rows that can be wired with the fewest gaps the first on the fewest
+-- tracks, or the first one of all; or a cycle of the first least row.
+use Rattle.std.specs.Prelude.{ℕ, ◌==◌, ◌<◌, ◌⊎◌, List, [], ◌∷◌, ◌++◌, codes, if◌then◌else◌}
 use Rattle.cell_num.specs.declared.net.NetNo.{NetNo}
 use Rattle.row_model.specs.declared.column.Column.{Column}
-use Rattle.row_place.specs.Places.{placement_of}
+use Rattle.row_model.specs.Gaps.{gaps_of}
 use Rattle.channel_route.specs.declared.ring.Ring.{Ring}
 use Rattle.spice_net.specs.declared.subckt.Subckt.{Subckt}
 use Rattle.track_log.specs.declared.certificate.TrackCertificate.{TrackCertificate}
@@ -15,9 +16,8 @@ use Rattle.call_words.specs.declared.evidence.Evidence.{Evidence}
 use Rattle.cell_inputs.specs.declared.style.Style.{Style}
 use Rattle.cell_inputs.specs.declared.style.Taps.{Taps}
 use Rattle.cell_inputs.specs.Inputs.{Inputs}
-use Rattle.cell_make.specs.Low.{DrawsLow, HasFirstLeast, IsTrackSpent, ProvesTracks, low_style}
+use Rattle.cell_make.specs.Low.{DrawsLow, HasFirstLeast, IsRinged, IsWiredSpent, ProvesTracks, low_style}
 use Rattle.cell_make.specs.Rows.{DrawAnswer}
-use Rattle.cell_make.specs.Style.{IsToldRing}
 use Rattle.cell_report.specs.Cells.{fewest_text}
 use Rattle.cell_report.specs.Cycles.{ring_text}
 use Rattle.cell_commands.specs.declared.certificate.Certificate.{Certificate}
@@ -29,7 +29,7 @@ use Rattle.cell_commands.specs.Searched.{Crowds, IsCertifiedBy, IsFoundBy, IsOpe
 
 -- ---- the evidence
 
--- the file of the certificate of the tracks, where each least row takes one at least
+-- the file of the certificate of the tracks, where it proves that a row takes one at least
 abbrev pub track_files : Subckt → List ℕ → TrackCertificate → List (List ℕ × List ℕ)
 track_files cell out tracks =
     if tracks.tracks == 0 then [] else (out ++ codes ".ctrack", certificate_text cell.name tracks) ∷ []
@@ -42,6 +42,12 @@ low_evidence cell out certificate tracks = record {
   counts = (row_evidence cell out certificate).counts;
 }
 
+-- it is accepted and lists the row; or the row has more gaps than the first least one, for which it was found
+abbrev pub IsLowCertifiedBy : Evidence → Inputs → List Column → Certificate → Type 0
+IsLowCertifiedBy evidence inputs row certificate =
+    IsCertifiedBy evidence inputs row certificate
+    ⊎ ((least : List Column) × (gaps_of least < gaps_of row) × IsFoundBy evidence inputs least certificate)
+
 -- ---- what it results in
 
 pub data LowAnswer : Type 0 where
@@ -50,30 +56,33 @@ pub data LowAnswer : Type 0 where
   Open : (proved : ℕ) (certificate : Certificate) → LowAnswer
   Crowded : (gate : NetNo) → LowAnswer
 
--- A certificate proves how many tracks each least row takes at least, and one of the two:
--- - the row has a certificate that is accepted and lists it, there is a first least row, and drawing the row results in
---   this: the lowest row, or the first least one where the search for the lowest row is open;
--- - the budget of that search is spent, and nets of the first least row are above each other in this cycle.
+-- A certificate proves how many tracks each row takes at least, within its gaps, and one of the two:
+-- - the row has evidence, there is a first least row, and drawing the row results in this: the lowest row, or where
+--   the search for that is open the first one that can be wired with the fewest gaps; or a cycle of the first least
+--   row, where no row can be wired;
+-- - the budget of the search for a row that can be wired is spent, and nets of the first least row are above each other
+--   in this cycle.
 -- Or a certificate proves that many gaps of every row, or the fingers of a gate pair in too many ways.
 abbrev pub MakesLow : Evidence → Style → Inputs → LowAnswer → Type 0
 MakesLow evidence style inputs (Made row certificate tracks answer) =
     ProvesTracks inputs tracks
-    × IsCertifiedBy evidence inputs row certificate
+    × IsLowCertifiedBy evidence inputs row certificate
     × HasFirstLeast inputs
     × DrawsLow style inputs row tracks answer
 MakesLow evidence style inputs (Unwired row certificate tracks ring) =
     ProvesTracks inputs tracks
-    × IsTrackSpent inputs tracks
+    × IsWiredSpent inputs tracks
     × IsFoundBy evidence inputs row certificate
-    × IsToldRing style.wiring (placement_of row) inputs.cell.pins ring
+    × IsRinged inputs row ring
 MakesLow evidence style inputs (Open proved certificate) = IsOpenBy evidence inputs proved certificate
 MakesLow evidence style inputs (Crowded gate) = Crowds evidence inputs gate
 
--- the evidence, without a drawing: how many tracks each least row takes at least, and the cycle of the first one
+-- the evidence, without a drawing: no tracks of any row are known, since none that can be wired is, and the cycle of
+-- the first least one
 abbrev pub IsUnwiredEnd : Inputs → List ℕ → Certificate → TrackCertificate → Ring → End → Type 0
 IsUnwiredEnd inputs out certificate tracks ring =
     IsEnd status.Unfinished (low_evidence inputs.cell out certificate tracks).files
-    (first_line status.Unfinished ++ fewest_text tracks.tracks ++ ring_text inputs.cell.nets ring)
+    (first_line status.Unfinished ++ fewest_text 0 ++ ring_text inputs.cell.nets ring)
 
 abbrev pub IsLowEnd : Style → Inputs → List ℕ → LowAnswer → End → Type 0
 IsLowEnd style inputs out (Made row certificate tracks answer) =

@@ -1,5 +1,5 @@
 -- The evidence of the first least row, listing another least row.
-use Rattle.std.specs.Prelude.{◌≡◌, true, false, Bool, List}
+use Rattle.std.specs.Prelude.{◌≡◌, List}
 use Rattle.row_model.specs.declared.column.Column.{Column}
 use Rattle.bound_log.specs.declared.log.Best.{Best}
 use Rattle.call_words.specs.declared.evidence.Evidence.{Evidence}
@@ -19,10 +19,6 @@ kind_of (held.Trails trails) = Trails
 -- it was found for the row
 abbrev pub IsFoundFor : Inputs → List Column → Certificate → Type 0
 IsFoundFor inputs row certificate = IsFoundBy (kind_of certificate) inputs row certificate
-
--- it was found for some row
-abbrev pub IsFoundForSome : Inputs → Certificate → Type 0
-IsFoundForSome inputs certificate = (row : List Column) × IsFoundFor inputs row certificate
 
 -- the same with this row in place of its own
 abbrev pub listing : Certificate → Best → Certificate

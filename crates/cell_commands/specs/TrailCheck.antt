@@ -1,6 +1,7 @@
 -- What a check of a certificate by trails results in.
 use Rattle.std.specs.Prelude.{ℕ, ◌≡◌, ◌≢◌, List, ◌++◌, codes, length, Ok, Err}
 use Rattle.cell_num.specs.Fingers.{columns_of}
+use Rattle.cell_num.specs.declared.net.NetNo.{NetNo}
 use Rattle.row_model.specs.declared.column.Column.{Column}
 use Rattle.row_model.specs.Arrangement.{IsArrangement}
 use Rattle.row_model.specs.Gaps.{gaps_of}
@@ -14,7 +15,7 @@ use Rattle.trail_log.specs.Text.{trails_text}
 use Rattle.trail_check.specs.declared.refusal.TrailRefusal.{TrailRefusal}
 use Rattle.trail_check.specs.declared.refusal.TrailRefusal.TheVariants as because
 use Rattle.trail_check.specs.Accepted.{IsAccepted, IsLow}
-use Rattle.trail_check.specs.Refusal.{Refuses}
+use Rattle.trail_check.specs.Refusal.{IsFault, Refuses}
 use Rattle.trail_search.specs.Ended.{IsCertified}
 use Rattle.call_end.specs.declared.end.End.{End}
 use Rattle.call_end.specs.declared.status.Status.TheVariants as status
@@ -60,9 +61,14 @@ HoldsRefused inputs bytes cause k =
     × (trails_of bytes inputs.cell.name k ≡ Ok trails)
     × Refuses inputs.fingers trails cause
 
+-- they are the text of a certificate with a gate whose fingers pair in more ways than a checker lists
+abbrev pub HoldsCrowded : Inputs → List ℕ → Type 0
+HoldsCrowded inputs bytes =
+    (gate : NetNo) × WithKinds inputs.fingers (HoldsRefused inputs bytes (because.Choices gate))
+
 -- The bytes are the text of an accepted certificate that lists the row, and no arrangement of the fingers has fewer
 -- gaps; or they are no text of one, by the first place that is wrong; or the certificate is refused, by the first
--- cause.
+-- cause, and where this is a fault of it they are the text of no accepted one.
 abbrev pub Checks : Inputs → List ℕ → TrailAnswer → Type 0
 Checks inputs bytes (Accepted row gaps lemmas filled) =
     IsLow inputs.fingers gaps
@@ -78,13 +84,14 @@ Checks inputs bytes (Misread f) =
 Checks inputs bytes (Rejected cause) =
     (cause ≢ because.NoMemory)
     × WithKinds inputs.fingers (HoldsRefused inputs bytes cause)
-    × (HoldsAccepted inputs bytes → ⊥)
+    × (IsFault cause → HoldsAccepted inputs bytes → ⊥)
 
 abbrev pub check_end : Inputs → TrailAnswer → End
 check_end inputs (Accepted row gaps lemmas filled) =
     reports status.Done (row_text inputs.cell.name (columns_of inputs.fingers) gaps ++ counts_text lemmas filled)
 check_end inputs (Misread f) = reports status.Rejected (fault_line (codes "trails") (log_fault f))
-check_end inputs (Rejected cause) = reports status.Rejected (fault_line (codes "trails") (trail_fault cause))
+check_end inputs (Rejected cause) =
+    reports status.Rejected (fault_line (codes "trails") (trail_fault inputs.cell.nets cause))
 
 abbrev pub TrailChecksTo : Inputs → List ℕ → End → Type 0
 TrailChecksTo inputs bytes end =

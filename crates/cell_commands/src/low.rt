@@ -1,48 +1,51 @@
-// `make` with `--low`: of all least rows the first on the fewest tracks, drawn.
+// `make` with `--low`: of all rows that can be wired with the fewest gaps the first on the fewest tracks, drawn.
 ghost use Rattle.std.specs.Prelude.{◌≡◌, IfOk};
 ghost use Rattle.row_place.specs.Places.{placement_of};
-ghost use Rattle.cell_make.specs.Low.{IsLowest, IsTrackEnd, ProvesTracks};
+ghost use Rattle.cell_inputs.specs.declared.style.Taps.{Taps as TapsOf};
+ghost use Rattle.cell_make.specs.Low.{IsLowest, IsOpenRow, IsRinged, IsUnwiredEnd, ProvesTracks};
 ghost use Rattle.cell_commands.specs.Low.{MakesLowTo};
-ghost use Rattle.cell_commands.specs.Relisted.{IsFoundFor, IsFoundForSome, kind_of};
+ghost use Rattle.cell_commands.specs.Relisted.{IsFoundFor, kind_of};
 
 use crate::certificate::Certificate;
+use crate::drawing::drawn;
 use crate::evidence::too_many_pairings;
-use crate::low_end::{first_end, row_of};
+use crate::low_end::{ring_end, row_of};
 use crate::low_evidence::low_evidence;
 use crate::make_end::row_end;
 use crate::making::open_end;
-use crate::relisted::relisted;
+use crate::relisted::beside;
 use crate::searched::Searched;
 use call_end::{End, Stem};
 use call_words::Evidence;
 use cell_inputs::{Inputs, Style, Taps, Wiring};
 use cell_make::{DrawOutcome, LowPlanned};
 use cell_num::NoMemory;
-use channel_route::Routing;
+use channel_route::{Ring, Routing};
 use row_model::Arrangement;
 use row_place::Placement;
 use std::alloc::Global;
 use track_log::TrackCertificate;
 
-// The lowest row, drawn. It is listed by the certificate that was found for the first one.
+// The lowest row, drawn. The certificate of the gaps was found for the first least row.
 fn lowest(
     alloc: Global,
     inputs: &Inputs,
     stem: &Stem,
     taps: Taps,
-    certificate: Certificate,
+    least: &Arrangement,
+    gaps: Certificate,
     placement: Placement,
     routing: Routing,
     tracks: &TrackCertificate,
 ) -> Result<End, NoMemory>
+    requires found { IsFoundFor inputs.now least.now gaps }
     requires placed { placement ≡ placement_of placement.row }
-    requires lowest { IsLowest inputs.now placement.row routing tracks.now.tracks }
+    requires lowest { IsLowest inputs.now placement.row routing tracks.now }
     requires proves { ProvesTracks inputs.now tracks.now }
-    requires found { IsFoundForSome inputs.now certificate }
-    ensures { IfOk result (MakesLowTo (kind_of certificate) taps inputs.now stem.now) }
+    ensures { IfOk result (MakesLowTo (kind_of gaps) taps inputs.now stem.now) }
 {
     inputs.show_limits();
-    let listing = relisted(alloc, inputs, &placement.row, certificate)?;
+    let listing = beside(alloc, inputs, least, &placement.row, gaps)?;
     let evidence = low_evidence(alloc, &inputs.cell, stem, listing, tracks)?;
     let style = Style {
         wiring: Wiring::Straight,
@@ -54,42 +57,52 @@ fn lowest(
     end
 }
 
-// The first least row, drawn, where the search for the lowest one is open.
-fn first(
+// The row that can be wired with the fewest gaps, drawn, where the search for the lowest one is open.
+fn wired(
     alloc: Global,
     inputs: &Inputs,
     stem: &Stem,
     taps: Taps,
+    least: &Arrangement,
+    gaps: Certificate,
     row: &Arrangement,
-    certificate: Certificate,
     tracks: &TrackCertificate,
-    none_wired: bool,
 ) -> Result<End, NoMemory>
-    requires found { IsFoundFor inputs.now row.now certificate }
+    requires found { IsFoundFor inputs.now least.now gaps }
+    requires open { IsOpenRow inputs.now least.now row.now tracks.now }
     requires proves { ProvesTracks inputs.now tracks.now }
-    requires open { IsTrackEnd inputs.now tracks.now none_wired }
-    ensures { IfOk result (MakesLowTo (kind_of certificate) taps inputs.now stem.now) }
+    ensures { IfOk result (MakesLowTo (kind_of gaps) taps inputs.now stem.now) }
 {
     inputs.show_limits();
-    let evidence = low_evidence(alloc, &inputs.cell, stem, certificate, tracks)?;
+    let listing = beside(alloc, inputs, least, row, gaps)?;
+    let evidence = low_evidence(alloc, &inputs.cell, stem, listing, tracks)?;
     let style = Style {
         wiring: Wiring::Straight,
         taps,
     };
-    let came = DrawOutcome::of(alloc, inputs, style, row)?;
-    let end = first_end(
-        alloc,
-        inputs,
-        stem,
-        style,
-        row,
-        &came,
-        evidence,
-        tracks.tracks,
-        none_wired,
-    );
-    drop(came);
-    end
+    drawn(alloc, inputs, stem, style, row, evidence)
+}
+
+// The cycle of the first least row, where no row that can be wired is known: there are no taps to draw.
+fn ringed(
+    alloc: Global,
+    inputs: &Inputs,
+    stem: &Stem,
+    least: &Arrangement,
+    gaps: Certificate,
+    ring: &Ring,
+    tracks: &TrackCertificate,
+    none_wired: bool,
+) -> Result<End, NoMemory>
+    requires found { IsFoundFor inputs.now least.now gaps }
+    requires ringed { IsRinged inputs.now least.now ring.now }
+    requires unwired { IsUnwiredEnd inputs.now tracks.now none_wired }
+    requires proves { ProvesTracks inputs.now tracks.now }
+    ensures { (taps : TapsOf) → IfOk result (MakesLowTo (kind_of gaps) taps inputs.now stem.now) }
+{
+    inputs.show_limits();
+    let evidence = low_evidence(alloc, &inputs.cell, stem, gaps, tracks)?;
+    ring_end(alloc, inputs, ring, evidence, none_wired)
 }
 
 // After the first least row was found.
@@ -98,55 +111,49 @@ fn found(
     inputs: &Inputs,
     stem: &Stem,
     taps: Taps,
-    row: &Arrangement,
-    certificate: Certificate,
+    least: &Arrangement,
+    gaps: Certificate,
 ) -> Result<End, NoMemory>
-    requires { IsFoundFor inputs.now row.now certificate }
-    ensures { IfOk result (MakesLowTo (kind_of certificate) taps inputs.now stem.now) }
+    requires { IsFoundFor inputs.now least.now gaps }
+    ensures { IfOk result (MakesLowTo (kind_of gaps) taps inputs.now stem.now) }
 {
-    match LowPlanned::of(alloc, inputs, row)? {
+    match LowPlanned::of(alloc, inputs, least)? {
         LowPlanned::Found {
             placement,
             routing,
             certificate: tracks,
         } => {
             let end = lowest(
-                alloc,
-                inputs,
-                stem,
-                taps,
-                certificate,
-                placement,
-                routing,
-                &tracks,
+                alloc, inputs, stem, taps, least, gaps, placement, routing, &tracks,
             );
             drop(tracks);
             end
         }
         LowPlanned::Open {
+            row,
+            certificate: tracks,
+        } => {
+            let end = wired(alloc, inputs, stem, taps, least, gaps, &row, &tracks);
+            drop(tracks);
+            end
+        }
+        LowPlanned::Unwired {
+            ring,
             certificate: tracks,
             none_wired,
         } => {
-            let end = first(
-                alloc,
-                inputs,
-                stem,
-                taps,
-                row,
-                certificate,
-                &tracks,
-                none_wired,
-            );
+            let end = ringed(alloc, inputs, stem, least, gaps, &ring, &tracks, none_wired);
             drop(tracks);
             end
         }
     }
 }
 
-/// Of all least rows the first on the fewest tracks, drawn with the first of its routings on these tracks, with its
-/// evidence and that of its tracks. Where the budget is spent before it is found, or no least row is wired: the first
-/// least row as `make` draws it, with how many tracks each least row takes at least. Where no least row is found: what
-/// `make` leaves.
+/// Of all rows that can be wired with the fewest gaps the first on the fewest tracks, drawn with the first of its
+/// routings on these tracks, with the evidence of the first least row and that of the tracks. Where the budget is spent
+/// before it is found: the first row that can be wired with the fewest gaps, with how many tracks each such row takes
+/// at least. Where no row can be wired, or none is found: a cycle of the first least row. Where no least row is found:
+/// what `make` leaves.
 pub fn make_low(
     alloc: Global,
     inputs: &Inputs,

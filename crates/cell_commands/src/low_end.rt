@@ -1,15 +1,16 @@
-ghost use Rattle.std.specs.Prelude.{◌≡◌, ◌≤◌, IfOk, length};
-ghost use Rattle.cell_make.specs.Rows.{CanRowBeWritten, IsRowDrawnBy, placement_in, row_answer};
+ghost use Rattle.std.specs.Prelude.{◌≡◌, IfOk};
+ghost use Rattle.cell_make.specs.Rows.{placement_in};
 ghost use Rattle.cell_commands.specs.Evidence.{shown};
-ghost use Rattle.cell_commands.specs.LowEnds.{IsFirstEnd};
+ghost use Rattle.cell_commands.specs.LowEnds.{IsRingEnd};
 
 use crate::evidence::RowEvidence;
-use crate::make_end::{evidence_end, row_end};
-use call_end::{End, Status, Stem};
-use cell_inputs::{Inputs, Style};
+use crate::make_end::evidence_end;
+use call_end::{End, Status};
+use cell_inputs::Inputs;
 use cell_make::DrawOutcome;
 use cell_num::NoMemory;
-use cell_report::open_ring_report;
+use cell_report::{cycle_report, open_ring_report};
+use channel_route::Ring;
 use row_model::Arrangement;
 use std::alloc::Global;
 
@@ -24,34 +25,23 @@ pub(crate) fn row_of(came: &DrawOutcome) -> &Arrangement
     }
 }
 
-/// The end of the first least row where the search for the lowest one is open: its drawing; or its evidence alone, with
-/// a height that is not enough, or with a cycle of its nets. Unless no least row is wired, the cycle leaves the search
-/// unfinished.
-pub(crate) fn first_end(
+/// The end where no row that can be wired is known: the evidence of the first least row, and its cycle. Unless no row
+/// can be wired, the search is unfinished: no legal routing is known, so no row is known to take any tracks.
+pub(crate) fn ring_end(
     alloc: Global,
     inputs: &Inputs,
-    stem: &Stem,
-    style: Style,
-    row: &Arrangement,
-    came: &DrawOutcome,
+    ring: &Ring,
     evidence: RowEvidence,
-    fewest: u32,
     none_wired: bool,
 ) -> Result<End, NoMemory>
-    requires columns { length row.now ≤ 64 }
-    requires exact { IsRowDrawnBy style inputs.now row.now came.now }
-    requires written { CanRowBeWritten inputs.now came.now }
-    ensures { IfOk result (IsFirstEnd style inputs.now stem.now row.now (shown evidence) fewest none_wired
-        (row_answer came.now)) }
+    ensures { IfOk result (IsRingEnd inputs.now (shown evidence) none_wired ring.now) }
 {
+    let nets = &inputs.cell.nets;
     if none_wired {
-        return row_end(alloc, inputs, stem, style, row, came, evidence);
-    }
-    match came {
-        DrawOutcome::Cyclic { ring, .. } => {
-            let report = open_ring_report(alloc, &inputs.cell.nets, fewest, ring)?;
-            Ok(evidence_end(Status::Unfinished, evidence.files, report))
-        }
-        _ => row_end(alloc, inputs, stem, style, row, came, evidence),
+        let report = cycle_report(alloc, nets, ring)?;
+        Ok(evidence_end(Status::Cycle, evidence.files, report))
+    } else {
+        let report = open_ring_report(alloc, nets, 0, ring)?;
+        Ok(evidence_end(Status::Unfinished, evidence.files, report))
     }
 }

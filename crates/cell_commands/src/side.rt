@@ -1,4 +1,4 @@
-ghost use Rattle.std.specs.Prelude.{◌≡◌, ◌<◌, ◌≤◌, IfNone, IfSome, length, position};
+ghost use Rattle.std.specs.Prelude.{◌≡◌, ◌<◌, ◌≤◌, IfSome, length, position};
 ghost use Rattle.row_model.specs.Tests.{same_finger};
 ghost use Rattle.row_state.specs.Completion.{finger_of};
 ghost use Rattle.cell_commands.specs.Sides.{HasKind, IsNumberOf, IsSideOf};

@@ -112,7 +112,7 @@ pub(crate) fn trails_end(
         }
         TrailAnswer::Rejected(cause) => {
             let mut report = Status::Rejected.report(alloc)?;
-            put_trail_refusal(&mut report, cause)?;
+            put_trail_refusal(&mut report, &inputs.cell.nets, cause)?;
             Ok(End::says(alloc, Status::Rejected, report))
         }
     }

@@ -1,6 +1,6 @@
 -- A cell of these inputs, with its first least row or with its lowest one, from what the searches and the drawing
 -- answered.
-use Rattle.std.proofs.Common.{ℕ, ◌≡◌, ◌∙◌, List, Option, Some, None, Result, Ok, Err, IfErr, IfOk, ap, refl, sym, subst}
+use Rattle.std.proofs.Common.{ℕ, ◌≡◌, ◌∙◌, true, false, Bool, List, Result, Ok, Err, IfErr, IfOk, ap, refl, sym, subst}
 use Rattle.bound_log.specs.declared.log.Log.{Log}
 use Rattle.cell_inputs.specs.Inputs.{AreInputs, Inputs}
 use Rattle.cell_inputs.specs.Style.{plain_style}
@@ -10,10 +10,10 @@ use Rattle.cell_inputs.specs.declared.style.Style.{Style}
 use Rattle.cell_make.proofs.LowCell.{first_there}
 use Rattle.cell_make.proofs.MadeCells.{IsStanding, made_of, sound_so, stands_by}
 use Rattle.cell_make.specs.Extent.{LiesInFrame}
-use Rattle.cell_make.specs.Low.{IsLowRouted, ProvesTracks}
+use Rattle.cell_make.specs.Low.{IsLowRouted, IsUnwiredEnd, ProvesTracks}
 use Rattle.cell_make.specs.Making.{CanBeWritten, ComesTo, IsDrawnAs, drawing_in}
 use Rattle.cell_make.specs.RowInputs.{RowInputs}
-use Rattle.cell_make.specs.RowSteps.{IsCellBy, IsCellOf, IsFoundLow, IsLowDrawn, IsOpenBy, IsRingEnd, IsSoundCell, IsStop, IsStopBy, ringed}
+use Rattle.cell_make.specs.RowSteps.{IsCellBy, IsCellOf, IsFoundLow, IsLowDrawn, IsRingEnd, IsSoundCell, IsStop, IsStopBy, ringed}
 use Rattle.cell_make.specs.CellOfRow.{Cyclic, IsMadeBy, IsMadeLow, StopAnswer, StopsBy, Tall, TellsWhy, Unfinished, Unwired}
 use Rattle.cell_make.specs.Rowed.{AreInputsOf, MadeCell, cell_drawing}
 use Rattle.cell_make.specs.Rows.{CanRowBeWritten, ComesAs, LiesRowInFrame}
@@ -119,24 +119,24 @@ low_tall inputs low placement routing needed given are (first, log, found, h) is
       (h.row, log, routing, refl, comes.exact.0, comes.exact.1),
     )
 
--- a ring, by why the search for the lowest row is open
-low_ring : (inputs : Inputs) (first row : List Column) (log : Log) (tracks : TrackCertificate) (spent : Option ℕ) (ring : Ring) → IsFound inputs first log → ProvesTracks inputs tracks → row ≡ first → IsToldRing plain_style.wiring (placement_of row) inputs.cell.pins ring → IsOpenBy inputs tracks spent → IsWhy Lowest inputs (ringed ring spent)
-low_ring inputs first row log tracks None ring found proves same told none = (
+-- a ring, by why no row that can be wired is known
+low_ring : (inputs : Inputs) (first row : List Column) (log : Log) (tracks : TrackCertificate) (none_wired : Bool) (ring : Ring) → IsFound inputs first log → ProvesTracks inputs tracks → row ≡ first → IsToldRing plain_style.wiring (placement_of row) inputs.cell.pins ring → IsUnwiredEnd inputs tracks none_wired → IsWhy Lowest inputs (ringed ring none_wired)
+low_ring inputs first row log tracks true ring found proves same told none = (
   Cyclic first log ring,
-  (tracks, record { found = found; proves = proves; open' = none; told = subst (λ (columns : List Column). IsToldRing plain_style.wiring (placement_of columns) inputs.cell.pins ring) same told }),
+  (tracks, record { found = found; proves = proves; unwired = none; told = subst (λ (columns : List Column). IsToldRing plain_style.wiring (placement_of columns) inputs.cell.pins ring) same told }),
   (first, log, refl),
 )
-low_ring inputs first row log tracks (Some fewest) ring found proves same told (spent, is) = (
+low_ring inputs first row log tracks false ring found proves same told spent = (
   Unwired first log tracks ring,
-  record { found = found; proves = proves; open' = spent; told = subst (λ (columns : List Column). IsToldRing plain_style.wiring (placement_of columns) inputs.cell.pins ring) same told },
-  (first, log, tracks, refl, is),
+  record { found = found; proves = proves; unwired = spent; told = subst (λ (columns : List Column). IsToldRing plain_style.wiring (placement_of columns) inputs.cell.pins ring) same told },
+  (first, log, tracks, refl),
 )
 
-pub low_cyclic : (inputs : Inputs) (low : LowDrawn) (placement : Placement) (ring : Ring) → IsFoundLow inputs low → low.came ≡ came.Cyclic placement ring → IsWhy Lowest inputs (ringed ring low.spent)
+pub low_cyclic : (inputs : Inputs) (low : LowDrawn) (placement : Placement) (ring : Ring) → IsFoundLow inputs low → low.came ≡ came.Cyclic placement ring → IsWhy Lowest inputs (ringed ring low.none_wired)
 low_cyclic inputs low placement ring (first, log, found, h) is =
     let comes : ComesAs (IsLowRouted plain_style inputs h.row h.tracks) plain_style inputs h.row (came.Cyclic placement ring) = subst (ComesAs (IsLowRouted plain_style inputs h.row h.tracks) plain_style inputs h.row) is h.comes in
-    let ends : IsRingEnd inputs first h.row h.tracks low.spent (came.Cyclic placement ring) = subst (IsRingEnd inputs first h.row h.tracks low.spent) is h.ring in
-    low_ring inputs first h.row log h.tracks low.spent ring found h.proves ends.0 comes.draws ends.1
+    let ends : IsRingEnd inputs first h.row h.tracks low.none_wired (came.Cyclic placement ring) = subst (IsRingEnd inputs first h.row h.tracks low.none_wired) is h.ring in
+    low_ring inputs first h.row log h.tracks low.none_wired ring found h.proves ends.0 comes.draws ends.1
 
 pub low_open : (inputs : Inputs) (log : Log) (proved : ℕ) → IsUnfinished inputs proved log → IsWhy Lowest inputs (why.Unfinished log proved)
 low_open inputs log proved spent = (Unfinished proved log, spent, refl)

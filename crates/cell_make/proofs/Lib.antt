@@ -7,6 +7,8 @@ pub mod Finals
 pub mod LeastLines
 pub mod LogFits
 pub mod LowDrawn
+pub mod LowOpen
+pub mod LowPasses
 pub mod LowRows
 pub mod Makes
 pub mod ReadBack
@@ -18,6 +20,7 @@ pub mod Apart
 pub mod Beside
 pub mod CellBy
 pub mod LowCell
+pub mod RowOrder
 pub mod Decoded
 pub mod Library
 pub mod Made
@@ -26,3 +29,4 @@ pub mod Rails
 pub mod Split
 pub mod Stops
 pub mod Uses
+pub mod Rules

@@ -1,19 +1,22 @@
 -- What drawing the lowest row of a cell results in, from what the search for it answered.
-use Rattle.std.proofs.Common.{ℕ, ◌≡◌, true, false, Bool, List, Option, None, inl, inr, refl, subst, sym}
+use Rattle.std.proofs.Common.{◌≡◌, true, false, Bool, List, refl, subst, sym}
 use Rattle.cell_inputs.specs.Inputs.{AreInputs, Inputs}
 use Rattle.cell_inputs.specs.Style.{plain_style}
-use Rattle.cell_make.proofs.LowDrawn.{first_comes, lowest_comes}
-use Rattle.cell_make.specs.Low.{HasFirstLeast, IsLeast, IsLowPlanned, IsTrackEnd, IsTrackOpen}
-use Rattle.cell_make.specs.RowSteps.{IsLowDrawn, IsOpenBy, IsRingEnd, spent_by}
+use Rattle.cell_make.proofs.LowDrawn.{lowest_comes, open_comes}
+use Rattle.cell_make.proofs.LowOpen.{not_ringed}
+use Rattle.cell_make.specs.Low.{HasFirstLeast, IsLeast, IsLowPlanned, IsOpenRow}
+use Rattle.cell_make.specs.RowSteps.{IsLowDrawn, IsRingEnd}
 use Rattle.cell_make.specs.Rows.{ComesAs, ComesFrom, IsThat, IsWired}
 use Rattle.cell_make.specs.declared.draw_outcome.DrawOutcome.{DrawOutcome}
 use Rattle.cell_make.specs.declared.draw_outcome.DrawOutcome.TheVariants as came
 use Rattle.cell_make.specs.declared.low_drawn.LowDrawn.{LowDrawn}
 use Rattle.cell_make.specs.declared.low_planned.LowPlanned.TheVariants as planned
 use Rattle.cell_num.specs.Pins.{ArePins}
+use Rattle.channel_route.specs.declared.ring.Ring.{Ring}
 use Rattle.channel_route.specs.declared.routing.Routing.{Routing}
 use Rattle.row_model.specs.declared.column.Column.{Column}
 use Rattle.row_place.proofs.Pins.{has_pins}
+use Rattle.row_place.specs.Places.{placement_of}
 use Rattle.row_place.specs.declared.placement.Placement.{Placement}
 use Rattle.row_search.specs.First.{IsFirstLeast}
 use Rattle.track_log.specs.declared.certificate.TrackCertificate.{TrackCertificate}
@@ -29,45 +32,49 @@ first_there inputs row are first = record {
   pins = has_pins inputs.cell.nets inputs.cell.pins inputs.fingers row are.sound (subst (λ n. ArePins n inputs.cell.pins) (sym are.sound.named) are.pins) first.arranges;
 }
 
-abbrev pub low_drawn : DrawOutcome → Option ℕ → LowDrawn
-low_drawn of spent = record { came = of; spent = spent }
+abbrev pub low_drawn : DrawOutcome → (none_wired : Bool) → LowDrawn
+low_drawn of none_wired = record { came = of; none_wired = none_wired }
 
 -- ---- the lowest row
 
-wired_end : (inputs : Inputs) (first row : List Column) (tracks : TrackCertificate) (spent : Option ℕ) (of : DrawOutcome) → IsWired of → IsRingEnd inputs first row tracks spent of
-wired_end inputs first row tracks spent (came.Drawn placement routing drawn) wired = tt
-wired_end inputs first row tracks spent (came.Cyclic placement ring) wired = absurd wired
-wired_end inputs first row tracks spent (came.Tall placement routing needed given) wired = tt
+wired_end : (inputs : Inputs) (first row : List Column) (tracks : TrackCertificate) (none_wired : Bool) (of : DrawOutcome) → IsWired of → IsRingEnd inputs first row tracks none_wired of
+wired_end inputs first row tracks none_wired (came.Drawn placement routing drawn) wired = tt
+wired_end inputs first row tracks none_wired (came.Cyclic placement ring) wired = absurd wired
+wired_end inputs first row tracks none_wired (came.Tall placement routing needed given) wired = tt
 
-pub lowest_low : (inputs : Inputs) (first : List Column) (placement : Placement) (routing : Routing) (certificate : TrackCertificate) (of : DrawOutcome) → IsLowPlanned inputs (planned.Found placement routing certificate) → IsWired of → ComesAs (IsThat routing) plain_style inputs placement.row of → IsLowDrawn inputs first (low_drawn of None)
+pub lowest_low : (inputs : Inputs) (first : List Column) (placement : Placement) (routing : Routing) (certificate : TrackCertificate) (of : DrawOutcome) → IsLowPlanned inputs first (planned.Found placement routing certificate) → IsWired of → ComesAs (IsThat routing) plain_style inputs placement.row of → IsLowDrawn inputs first (low_drawn of false)
 lowest_low inputs first placement routing certificate of (placed, lowest, proves) wired comes = record {
   row = placement.row;
   tracks = certificate;
   proves = proves;
   comes = lowest_comes plain_style inputs placement.row certificate routing of lowest comes;
-  ring = wired_end inputs first placement.row certificate None of wired;
+  ring = wired_end inputs first placement.row certificate false of wired;
 }
 
--- ---- the first least row
+-- ---- the first row that can be wired with the fewest gaps
 
-is_open : (inputs : Inputs) (certificate : TrackCertificate) (none_wired : Bool) → IsTrackEnd inputs certificate none_wired → IsTrackOpen inputs certificate
-is_open inputs certificate true none = inl none
-is_open inputs certificate false spent = inr spent
+-- it has no cycle
+open_wired : (inputs : Inputs) (first row : List Column) (certificate : TrackCertificate) (of : DrawOutcome) → IsOpenRow inputs first row certificate → ComesFrom plain_style inputs row of → IsWired of
+open_wired inputs first row certificate (came.Drawn placement routing drawn) is comes = tt
+open_wired inputs first row certificate (came.Cyclic placement ring) is comes = not_ringed inputs row ring is.wired.wired comes.draws
+open_wired inputs first row certificate (came.Tall placement routing needed given) is comes = tt
 
-open_by : (inputs : Inputs) (certificate : TrackCertificate) (none_wired : Bool) → IsTrackEnd inputs certificate none_wired → IsOpenBy inputs certificate (spent_by none_wired certificate.tracks)
-open_by inputs certificate true none = none
-open_by inputs certificate false spent = (spent, refl)
+pub open_low : (inputs : Inputs) (first row : List Column) (certificate : TrackCertificate) (of : DrawOutcome) → IsFirstLeast inputs.fingers first → IsLowPlanned inputs first (planned.Open row certificate) → ComesFrom plain_style inputs row of → IsLowDrawn inputs first (low_drawn of false)
+open_low inputs first row certificate of least (is, proves) comes = record {
+  row = row;
+  tracks = certificate;
+  proves = proves;
+  comes = open_comes plain_style inputs first row certificate of least is comes;
+  ring = wired_end inputs first row certificate false of (open_wired inputs first row certificate of is comes);
+}
 
-first_end : (inputs : Inputs) (first : List Column) (certificate : TrackCertificate) (spent : Option ℕ) (of : DrawOutcome) → IsOpenBy inputs certificate spent → IsRingEnd inputs first first certificate spent of
-first_end inputs first certificate spent (came.Drawn placement routing drawn) by = tt
-first_end inputs first certificate spent (came.Cyclic placement ring) by = (refl, by)
-first_end inputs first certificate spent (came.Tall placement routing needed given) by = tt
+-- ---- a cycle of the first least row
 
-pub first_low : (inputs : Inputs) (first : List Column) (certificate : TrackCertificate) (none_wired : Bool) (spent : Option ℕ) (of : DrawOutcome) → IsFirstLeast inputs.fingers first → IsLowPlanned inputs (planned.Open certificate none_wired) → spent ≡ spent_by none_wired certificate.tracks → ComesFrom plain_style inputs first of → IsLowDrawn inputs first (low_drawn of spent)
-first_low inputs first certificate none_wired spent of least (proves, end) is comes = record {
+pub ring_low : (inputs : Inputs) (first : List Column) (ring : Ring) (certificate : TrackCertificate) (none_wired : Bool) (placement : Placement) → IsLowPlanned inputs first (planned.Unwired ring certificate none_wired) → placement ≡ placement_of first → IsLowDrawn inputs first (low_drawn (came.Cyclic placement ring) none_wired)
+ring_low inputs first ring certificate none_wired placement (ringed, ends, proves) placed = record {
   row = first;
   tracks = certificate;
   proves = proves;
-  comes = first_comes plain_style inputs first certificate of least (is_open inputs certificate none_wired end) comes;
-  ring = first_end inputs first certificate spent of (subst (IsOpenBy inputs certificate) (sym is) (open_by inputs certificate none_wired end));
+  comes = record { placed = placed; draws = ringed.told; exact = tt };
+  ring = (refl, ends);
 }

@@ -62,7 +62,7 @@ pub record IsStanding (m : MadeCell) : Type 0 where
 
 low_arranges : (inputs : Inputs) (row : List Column) (tracks : TrackCertificate) (routing : Routing) → IsLowRouted plain_style inputs row tracks routing → IsArrangement row inputs.fingers
 low_arranges inputs row tracks routing (inl h) = h.least.arranges
-low_arranges inputs row tracks routing (inr h) = h.first.arranges
+low_arranges inputs row tracks routing (inr h) = h.first.least.arranges
 
 low_legal : (inputs : Inputs) (row : List Column) (tracks : TrackCertificate) (routing : Routing) → IsLowRouted plain_style inputs row tracks routing → IsLegal (placement_of row) inputs.cell.pins routing
 low_legal inputs row tracks routing (inl h) = h.legal

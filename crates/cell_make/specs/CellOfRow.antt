@@ -6,7 +6,7 @@ use Rattle.cell_inputs.specs.Inputs.{Inputs}
 use Rattle.cell_inputs.specs.Style.{plain_style}
 use Rattle.cell_inputs.specs.declared.style.LeastRow.{LeastRow}
 use Rattle.cell_inputs.specs.declared.style.LeastRow.TheVariants.{First, Lowest}
-use Rattle.cell_make.specs.Low.{HasFirstLeast, IsLowRouted, IsTrackEnd, ProvesTracks}
+use Rattle.cell_make.specs.Low.{HasFirstLeast, IsLowRouted, IsUnwiredEnd, ProvesTracks}
 use Rattle.cell_make.specs.Making.{IsDrawnAs, IsMade, Makes}
 use Rattle.cell_make.specs.Making as making
 use Rattle.cell_make.specs.Searched.{IsFound, IsUnfinished}
@@ -21,8 +21,9 @@ use Rattle.track_log.specs.declared.certificate.TrackCertificate.{TrackCertifica
 
 -- ---- a drawing
 
--- The log is that of the first least row, and a certificate proves how many tracks each least row takes at least. The
--- row is the lowest one, or where the search for that is open the first least one, and it is drawn.
+-- The log is that of the first least row, and a certificate proves how many tracks each row takes at least, within its
+-- gaps. The row is the lowest one, or where the search for that is open the first that can be wired with the fewest
+-- gaps, and it is drawn.
 pub record IsMadeLow (inputs : Inputs) (row : List Column) (log : Log) (routing : Routing) (xs : List ℕ)
     : Type 0 where
   pub first : List Column
@@ -39,14 +40,15 @@ IsMadeBy Lowest inputs row log routing xs = IsMadeLow inputs row log routing xs
 -- ---- why there is none
 
 -- why a cell has no drawing: nets of its row are in a cycle, its height is not enough, or the budget is spent; or nets
--- of its first least row are in a cycle, and the search for its lowest row spent the budget
+-- of its first least row are in a cycle, and the search for a row that can be wired spent the budget
 pub data StopAnswer : Type 0 where
   Cyclic : (row : List Column) (log : Log) (ring : Ring) → StopAnswer
   Tall : (row : List Column) (log : Log) (routing : Routing) → StopAnswer
   Unfinished : (proved : ℕ) (log : Log) → StopAnswer
   Unwired : (row : List Column) (log : Log) (tracks : TrackCertificate) (ring : Ring) → StopAnswer
 
--- the lowest row, or where the search for it is open the first least one, needs more than the height
+-- the lowest row, or where the search for it is open the first that can be wired with the fewest gaps, needs more than
+-- the height
 pub record IsTallLow (inputs : Inputs) (row : List Column) (log : Log) (routing : Routing) : Type 0 where
   pub first : List Column
   pub found : IsFound inputs first log
@@ -56,16 +58,16 @@ pub record IsTallLow (inputs : Inputs) (row : List Column) (log : Log) (routing 
   pub routed : IsLowRouted plain_style inputs row tracks routing
   pub tall : IsTooTall row routing.tracks inputs.tech.height
 
--- nets of the first least row are in this cycle, and for one of the two reasons the search for the lowest row is open
+-- nets of the first least row are in this cycle, and no row can be wired, or the budget is spent
 pub record IsRingedLow (inputs : Inputs) (row : List Column) (log : Log) (tracks : TrackCertificate)
     (none_wired : Bool) (ring : Ring) : Type 0 where
   pub found : IsFound inputs row log
   pub proves : ProvesTracks inputs tracks
-  pub open' : IsTrackEnd inputs tracks none_wired
+  pub unwired : IsUnwiredEnd inputs tracks none_wired
   pub told : IsToldRing plain_style.wiring (placement_of row) inputs.cell.pins ring
 
 -- With straight trunks and no taps the first least row has no drawing, as `make` has it; or the lowest one has none.
--- Then a cycle of the first one ends it, only where no least row is wired or the search for the lowest one is open.
+-- Then a cycle of the first one ends it, only where no row can be wired or the budget of the search for one is spent.
 abbrev pub StopsBy : LeastRow → Inputs → StopAnswer → Type 0
 StopsBy First inputs (Cyclic row log ring) = Makes plain_style inputs (making.Cyclic row log ring)
 StopsBy First inputs (Tall row log routing) = Makes plain_style inputs (making.Tall row log routing)
@@ -77,14 +79,12 @@ StopsBy Lowest inputs (Tall row log routing) = IsTallLow inputs row log routing
 StopsBy Lowest inputs (Unfinished proved log) = IsUnfinished inputs proved log
 StopsBy Lowest inputs (Unwired row log tracks ring) = IsRingedLow inputs row log tracks false ring
 
--- why there is no drawing, as it is reported: the cycle, the heights needed and given, or the log of the
--- search; or the cycle, and how many tracks each least row takes at least
+-- why there is no drawing, as it is reported: the cycle, the heights needed and given, or the log of the search
 abbrev pub TellsWhy : Inputs → Undrawn → StopAnswer → Type 0
 TellsWhy inputs (why.Cyclic ring) answer = (row : List Column) × (log : Log) × (answer ≡ Cyclic row log ring)
 TellsWhy inputs (why.Tall needed given) answer =
     (row : List Column) × (log : Log) × (routing : Routing) × (answer ≡ Tall row log routing)
     × (needed ≡ needed_of row routing.tracks) × (given ≡ inputs.tech.height)
 TellsWhy inputs (why.Unfinished log proved) answer = answer ≡ Unfinished proved log
-TellsWhy inputs (why.Unwired ring fewest) answer =
+TellsWhy inputs (why.Unwired ring) answer =
     (row : List Column) × (log : Log) × (tracks : TrackCertificate) × (answer ≡ Unwired row log tracks ring)
-    × (fewest ≡ tracks.tracks)

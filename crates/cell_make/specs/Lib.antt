@@ -13,5 +13,6 @@ pub mod RowSteps
 -- What inner contracts and proofs alone cite.
 pub mod Channel
 pub mod LowEnded
+pub mod LowWired
 pub mod WithLog
 pub mod Writable

@@ -6,7 +6,7 @@ use Rattle.cell_inputs.specs.Style.{plain_style}
 use Rattle.cell_inputs.specs.declared.style.LeastRow.{LeastRow}
 use Rattle.bound_log.specs.declared.log.Log.{Log}
 use Rattle.cell_make.specs.Extent.{HasExtent}
-use Rattle.cell_make.specs.Low.{IsLowRouted, IsTrackEnd, ProvesTracks}
+use Rattle.cell_make.specs.Low.{IsLowRouted, IsUnwiredEnd, ProvesTracks}
 use Rattle.cell_make.specs.Rows.{ComesAs}
 use Rattle.cell_make.specs.Searched.{IsFound}
 use Rattle.channel_route.specs.declared.ring.Ring.{Ring}
@@ -48,38 +48,31 @@ pub record IsSoundCell (m : MadeCell) : Type 0 where
 
 -- ---- one cell, by its inputs
 
--- Where a cycle ends it, the row is the first least one, and the search for the lowest one is open: no least row is
--- wired, or the budget is spent, and each of them takes that many tracks at least.
-abbrev pub IsOpenBy : Inputs → TrackCertificate → Option ℕ → Type 0
-IsOpenBy inputs tracks None = IsTrackEnd inputs tracks true
-IsOpenBy inputs tracks (Some fewest) = IsTrackEnd inputs tracks false × (fewest ≡ tracks.tracks)
+-- where a cycle ends it, the row is the first least one, and no row can be wired, or the budget is spent
+abbrev pub IsRingEnd : Inputs → (first row : List Column) → TrackCertificate → (none_wired : Bool) → DrawOutcome
+    → Type 0
+IsRingEnd inputs first row tracks none_wired (came.Drawn placement routing drawn) = Unit {0}
+IsRingEnd inputs first row tracks none_wired (came.Cyclic placement ring) =
+    (row ≡ first) × IsUnwiredEnd inputs tracks none_wired
+IsRingEnd inputs first row tracks none_wired (came.Tall placement routing needed given) = Unit {0}
 
-abbrev pub IsRingEnd : Inputs → (first row : List Column) → TrackCertificate → Option ℕ → DrawOutcome → Type 0
-IsRingEnd inputs first row tracks spent (came.Drawn placement routing drawn) = Unit {0}
-IsRingEnd inputs first row tracks spent (came.Cyclic placement ring) = (row ≡ first) × IsOpenBy inputs tracks spent
-IsRingEnd inputs first row tracks spent (came.Tall placement routing needed given) = Unit {0}
-
--- where none is wired it says nothing
-abbrev pub spent_by : (none_wired : Bool) → (fewest : ℕ) → Option ℕ
-spent_by true fewest = None
-spent_by false fewest = Some fewest
-
--- what drawing the lowest row results in, or where the search for it is open the first least one
+-- what drawing the lowest row results in, or where the search for it is open the first that can be wired with the
+-- fewest gaps; or a cycle of the first least row
 pub record IsLowDrawn (inputs : Inputs) (first : List Column) (low : LowDrawn) : Type 0 where
   pub row : List Column
   pub tracks : TrackCertificate
   pub proves : ProvesTracks inputs tracks
   pub comes : ComesAs (IsLowRouted plain_style inputs row tracks) plain_style inputs row low.came
-  pub ring : IsRingEnd inputs first row tracks low.spent low.came
+  pub ring : IsRingEnd inputs first row tracks low.none_wired low.came
 
 -- so it is of the first least row that a search found
 abbrev pub IsFoundLow : Inputs → LowDrawn → Type 0
 IsFoundLow inputs low = (first : List Column) × (log : Log) × IsFound inputs first log × IsLowDrawn inputs first low
 
 -- why such a cycle ends it
-abbrev pub ringed : Ring → Option ℕ → Undrawn
-ringed ring None = why.Cyclic ring
-ringed ring (Some fewest) = why.Unwired ring fewest
+abbrev pub ringed : Ring → (none_wired : Bool) → Undrawn
+ringed ring true = why.Cyclic ring
+ringed ring false = why.Unwired ring
 
 -- the cell that is made of these inputs, with this choice of its row
 pub record IsCellBy (choice : LeastRow) (inputs : Inputs) (c : RowCell) : Type 0 where

@@ -19,7 +19,7 @@ pub enum ChannelStop {
 }
 
 /// Routes the channel of a placement by this wiring.
-#[tactic(auto, using(crate::proofs::Wirings::pieces_legal, crate::proofs::Wirings::pieces_tight, crate::proofs::Wirings::piece_ring))]
+#[tactic(auto, using(crate::proofs::Rules::route_by_rules))]
 pub fn route_by(
     alloc: Global,
     wiring: Wiring,

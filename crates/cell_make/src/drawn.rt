@@ -78,7 +78,7 @@ fn lines_of(
 }
 
 // The drawing of a routed row on these lines, without taps.
-#[tactic(auto, using(crate::proofs::Wirings::straight_legal, crate::proofs::Wirings::wired_so, crate::proofs::Wirings::shows_straight, crate::proofs::Wirings::shows_doglegs))]
+#[tactic(auto, using(crate::proofs::Rules::drawing_by_rules))]
 fn drawing_by(
     alloc: Global,
     wiring: Wiring,

@@ -95,12 +95,13 @@ pub(crate) fn first_cell(alloc: Global, inputs: Inputs) -> Result<RowCell, RowSt
 }
 
 // Why a cycle of the first least row ends it.
-fn ringed(ring: Ring, spent: Option<u32>) -> Undrawn
-    ensures { result ≡ ringed ring spent }
+fn ringed(ring: Ring, none_wired: bool) -> Undrawn
+    ensures { result ≡ ringed ring none_wired }
 {
-    match spent {
-        Some(fewest) => Undrawn::Unwired { ring, fewest },
-        None => Undrawn::Cyclic { ring },
+    if none_wired {
+        Undrawn::Cyclic { ring }
+    } else {
+        Undrawn::Unwired { ring }
     }
 }
 
@@ -113,7 +114,7 @@ fn low_cell(inputs: Inputs, low: LowDrawn) -> Result<RowCell, RowStop>
     ensures stops { IfErr result (IsStopBy Lowest inputs) }
 {
     inputs.show_limits();
-    let LowDrawn { came, spent } = low;
+    let LowDrawn { came, none_wired } = low;
     match came {
         DrawOutcome::Drawn {
             placement,
@@ -125,7 +126,7 @@ fn low_cell(inputs: Inputs, low: LowDrawn) -> Result<RowCell, RowStop>
             Ok(cell)
         }
         DrawOutcome::Cyclic { placement, ring } => {
-            Err(stopped(inputs, placement, ringed(ring, spent)))
+            Err(stopped(inputs, placement, ringed(ring, none_wired)))
         }
         DrawOutcome::Tall {
             placement,
@@ -140,7 +141,8 @@ fn low_cell(inputs: Inputs, low: LowDrawn) -> Result<RowCell, RowStop>
     }
 }
 
-/// The cell of these inputs, with its lowest row; where the search for that is open, with its first least row.
+/// The cell of these inputs, with its lowest row; where the search for that is open, with the first row that can be
+/// wired with the fewest gaps.
 pub(crate) fn lowest_cell(alloc: Global, inputs: Inputs) -> Result<RowCell, RowStop>
     ensures made { IfOk result (IsCellBy Lowest inputs) }
     ensures stops { IfErr result (IsStopBy Lowest inputs) }

@@ -8,6 +8,7 @@ pub mod drawn;
 mod drawn_cell;
 mod low_drawn;
 pub mod low_planned;
+mod low_wired;
 pub mod outcome;
 pub mod planned;
 mod row_cell;

@@ -1,6 +1,6 @@
-ghost use Rattle.std.specs.Prelude.{◌≡◌, IfOk};
+ghost use Rattle.std.specs.Prelude.{IfOk};
 ghost use Rattle.row_search.specs.First.{IsFirstLeast};
-ghost use Rattle.cell_make.specs.RowSteps.{IsLowDrawn, spent_by};
+ghost use Rattle.cell_make.specs.RowSteps.{IsLowDrawn};
 ghost use Rattle.cell_make.specs.Rows.{CanRowBeWritten, LiesRowInFrame};
 
 use crate::draw_outcome::DrawOutcome;
@@ -8,21 +8,16 @@ use crate::low_planned::LowPlanned;
 use cell_inputs::{Inputs, Style, Taps};
 use cell_num::NoMemory;
 use row_model::Arrangement;
+use row_place::place;
 use std::alloc::Global;
 
-/// What drawing the lowest row of a cell results in, or where the search for it is open its first least row.
+/// What drawing the lowest row of a cell results in; where the search for it is open, the first row that can be wired
+/// with the fewest gaps; where none is known, a cycle of the first least row.
 #[derive(Drop)]
 pub struct LowDrawn {
     pub came: DrawOutcome,
-    /// Where that search spent its budget: how many tracks each least row takes at least.
-    pub spent: Option<u32>,
-}
-
-// The tracks that a spent budget proves.
-fn spent_by(none_wired: bool, fewest: u32) -> Option<u32>
-    ensures { result ≡ spent_by none_wired fewest }
-{
-    if none_wired { None } else { Some(fewest) }
+    /// Where a cycle ends it: no row can be wired. Else the search for one spent its budget.
+    pub none_wired: bool,
 }
 
 impl LowDrawn {
@@ -33,6 +28,7 @@ impl LowDrawn {
         ensures written { IfOk result (λ low. CanRowBeWritten inputs.now low.came) }
         ensures extent { IfOk result (λ low. LiesRowInFrame inputs.now low.came) }
     {
+        inputs.show_limits();
         let planned = LowPlanned::of(alloc, inputs, row)?;
         match planned {
             LowPlanned::Found {
@@ -42,17 +38,31 @@ impl LowDrawn {
             } => {
                 drop(certificate);
                 let came = DrawOutcome::lowest(alloc, inputs, Taps::Without, placement, routing)?;
-                Ok(LowDrawn { came, spent: None })
+                Ok(LowDrawn {
+                    came,
+                    none_wired: false,
+                })
             }
             LowPlanned::Open {
+                row: wired,
+                certificate,
+            } => {
+                drop(certificate);
+                let came = DrawOutcome::of(alloc, inputs, Style::plain(), &wired)?;
+                Ok(LowDrawn {
+                    came,
+                    none_wired: false,
+                })
+            }
+            LowPlanned::Unwired {
+                ring,
                 certificate,
                 none_wired,
             } => {
-                let fewest = certificate.tracks;
                 drop(certificate);
-                let came = DrawOutcome::of(alloc, inputs, Style::plain(), row)?;
-                let spent = spent_by(none_wired, fewest);
-                Ok(LowDrawn { came, spent })
+                let placement = place(alloc, row)?;
+                let came = DrawOutcome::Cyclic { placement, ring };
+                Ok(LowDrawn { came, none_wired })
             }
         }
     }

@@ -17,23 +17,14 @@ use spice_text::Lines;
 use std::alloc::Global;
 use tech_file::Tech;
 
-// A copy, for the inputs of a cell.
-fn copy_tech(tech: &Tech) -> Result<Tech, NoMemory>
+// The same technology again, for the inputs of a cell.
+fn copied(tech: &Tech) -> Result<Tech, NoMemory>
     ensures exact { IfOk result (λ copy. copy ≡ tech.now) }
     ensures limits { IfOk result IsTechnology }
 {
-    tech.show_limits();
-    Ok(Tech {
-        lambda_nm: tech.lambda_nm,
-        wmax_p: tech.wmax_p,
-        wmax_n: tech.wmax_n,
-        vdd: tech.vdd.clone()?,
-        gnd: tech.gnd.clone()?,
-        p_models: tech.p_models.clone()?,
-        n_models: tech.n_models.clone()?,
-        budget: tech.budget,
-        height: tech.height,
-    })
+    let copy = tech.clone()?;
+    copy.show_limits();
+    Ok(copy)
 }
 
 // The inputs of the cell of that name, of the lines of the row's file.
@@ -47,7 +38,7 @@ fn inputs_of(alloc: Global, row: &RowInputs, lines: &Lines, name: &Name) -> Resu
     row.show_limits();
     let cell = read_cell_in(alloc, lines.as_slice(), name, &row.tech)?;
     let fingers = fold(alloc, &cell, &row.tech)?;
-    let tech = copy_tech(&row.tech)?;
+    let tech = copied(&row.tech)?;
     Ok(Inputs {
         tech,
         cell,

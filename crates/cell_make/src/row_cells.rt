@@ -6,7 +6,7 @@ ghost use Rattle.cell_make.specs.RowSteps.{AreCellsOf, IsNextCell, IsStop, Stops
 use crate::row_cell::made_cell;
 use crate::row_inputs::RowInputs;
 use crate::row_stop::RowStop;
-use cell_num::Name;
+use cell_num::{Name, NoMemory};
 use row_abut::{RowCell, RowCellList};
 use spice_net::split_file;
 use spice_text::Lines;
@@ -16,6 +16,13 @@ fn cell_named<'a>(cells: &'a [RowCell], name: &[u8]) -> Option<&'a RowCell>
     ensures { option_map (λ cell. cell.now) result ≡ find (has_name name.now) cells.now }
 {
     cells.iter().find(|cell| cell.name.as_slice() == name)
+}
+
+// The same cell again.
+fn copied(cell: &RowCell) -> Result<RowCell, NoMemory>
+    ensures { IfOk result (λ copy. copy ≡ cell.now) }
+{
+    Ok(cell.clone()?)
 }
 
 // The cell of that name: the one that was made before, or a new one.
@@ -32,7 +39,7 @@ fn next_cell(
     ensures stops { IfErr result (IsStop row.now name.now) }
 {
     match cell_named(before, name.as_slice()) {
-        Some(cell) => Ok(cell.copy()?),
+        Some(cell) => Ok(copied(cell)?),
         None => made_cell(alloc, row, lines, name),
     }
 }

@@ -28,16 +28,16 @@ pub enum InputFault {
 /// Why a cell is not drawn.
 #[derive(Drop)]
 pub enum Undrawn {
-    /// Nets of its first least row are above each other in a cycle. Where the lowest row is asked for, no least row is
-    /// wired.
+    /// Nets of its first least row are above each other in a cycle. Where the lowest row is asked for, no row of its
+    /// fingers can be wired.
     Cyclic { ring: Ring },
     /// The given height is below the one that is needed.
     Tall { needed: u32, given: u32 },
     /// The search spent its budget.
     Unfinished { log: KeptLog, proved: u32 },
-    /// Nets of its first least row are above each other in a cycle, and the search for the lowest one spent its budget.
-    /// Each least row takes that many tracks at least.
-    Unwired { ring: Ring, fewest: u32 },
+    /// Nets of its first least row are above each other in a cycle, and the search for a row that can be wired spent
+    /// its budget.
+    Unwired { ring: Ring },
 }
 
 /// The outcome of making a row of cells.

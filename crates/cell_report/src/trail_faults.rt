@@ -1,12 +1,13 @@
 ghost use Rattle.std.specs.Prelude.{◌≡◌, ◌++◌, codes, OnOk};
 ghost use Rattle.cell_report.specs.Faults.{fault_line, log_fault};
-ghost use Rattle.cell_report.specs.LayoutFaults.{with_one};
+ghost use Rattle.cell_report.specs.LayoutFaults.{with_one, with_text};
+ghost use Rattle.cell_report.specs.Names.{name_of};
 ghost use Rattle.cell_report.specs.TrailFaults.{trail_fault};
 
 use crate::fault_line::{Field, put_fault};
 use crate::faults::{put_cause, put_text_fault};
 use bound_log::LogFault;
-use cell_num::{Bytes, NoMemory};
+use cell_num::{Bytes, Names, NetNo, NoMemory};
 use trail_check::TrailRefusal;
 
 /// Adds the line of a fault of the text of a certificate by trails.
@@ -29,13 +30,30 @@ fn put_one(out: &mut Bytes, name: &[u8], field: &[u8], count: u32) -> Result<(),
     )
 }
 
-/// Adds the line of the cause that refuses a certificate by trails. A gate is named by the number of its net.
-pub fn put_trail_refusal(out: &mut Bytes, cause: &TrailRefusal) -> Result<(), NoMemory>
-    ensures { OnOk result (out.new ≡ out.old ++ fault_line (codes "trails") (trail_fault cause.now)) }
+// The gate with too many ways, by the name of its net.
+fn put_choices(out: &mut Bytes, nets: &Names, gate: NetNo) -> Result<(), NoMemory>
+    ensures { OnOk result (out.new ≡ out.old
+        ++ fault_line (codes "trails") (with_text (codes "Choices") (codes "gate") (name_of nets.now gate.0))) }
+{
+    let gate = match nets.get(gate.0 as usize) {
+        Some(name) => Field::Text(b"gate", name.as_slice()),
+        None => Field::Text(b"gate", b""),
+    };
+    put_fault(out, b"trails", b"Choices", &[gate])
+}
+
+/// Adds the line of the cause that refuses a certificate by trails. A gate is named by its net.
+pub fn put_trail_refusal(
+    out: &mut Bytes,
+    nets: &Names,
+    cause: &TrailRefusal,
+) -> Result<(), NoMemory>
+    ensures { OnOk result
+        (out.new ≡ out.old ++ fault_line (codes "trails") (trail_fault nets.now cause.now)) }
 {
     match cause {
         TrailRefusal::Gates => put_fault(out, b"trails", b"Gates", &[]),
-        TrailRefusal::Choices { gate } => put_one(out, b"Choices", b"gate", gate.0),
+        TrailRefusal::Choices { gate } => put_choices(out, nets, *gate),
         TrailRefusal::Unproved { line } => put_one(out, b"Unproved", b"line", *line),
         TrailRefusal::NoRow { best } => put_one(out, b"NoRow", b"best", *best),
         TrailRefusal::NotArrangement => put_fault(out, b"trails", b"NotArrangement", &[]),

@@ -24,6 +24,7 @@ use Rattle.call_work.specs.Ends.{is_among}
 use Rattle.call_work.specs.Evidence.{evidence_file}
 use Rattle.cell_inputs.specs.declared.style.Style.{Style}
 use Rattle.cell_inputs.specs.Inputs.{Inputs}
+use Rattle.cell_make.specs.Low.{IsLeast}
 use Rattle.cell_make.specs.Making.{IsRouted}
 use Rattle.cell_make.specs.Rows.{DrawAnswer, Draws, RowDrawn, RowCyclic, RowTall}
 use Rattle.cell_commands.specs.declared.certificate.Certificate.{Certificate}
@@ -31,7 +32,7 @@ use Rattle.cell_commands.specs.declared.certificate.Certificate.TheVariants as h
 use Rattle.cell_commands.specs.Given.{IsListedBy, IsRefusedBy, MakesFromTo, given_evidence}
 use Rattle.cell_commands.specs.RowEnd.{IsRowEnd, RowEvidence}
 use Rattle.cell_run.proofs.MadeFiles.{none_left}
-use Rattle.cell_run.proofs.MakeSettled.{IsDrawnBy, IsStopBy, by_end, row_leaves}
+use Rattle.cell_run.proofs.MakeSettled.{IsDrawnBy, IsRowBy, by_end, row_leaves}
 use Rattle.cell_run.proofs.MakeTold.{row_cycles, row_draws, row_needs}
 use Rattle.cell_run.proofs.PlanTold.{holds_done}
 use Rattle.cell_run.proofs.Worked.{Completes, IsAnswered, ends_told, settles, work_statuses}
@@ -86,24 +87,24 @@ FromLeaves m old new status.TooTall = IsTallCell (file_of m) m.style m.inputs m.
 FromLeaves m old new status.Rejected = IsRefusedFile m old new
 FromLeaves m old new _ = Unit {0}
 
--- a ring says nothing of a row that is given
-no_stop : (evidence : Evidence) (bytes : List ℕ) (inputs : Inputs) (row : List Column) (drawing : DrawAnswer) → IsStopBy (File evidence bytes) inputs row drawing
-no_stop evidence bytes inputs row (RowDrawn routing xs) = tt
-no_stop evidence bytes inputs row (RowCyclic ring) = tt
-no_stop evidence bytes inputs row (RowTall routing) = tt
+-- a row that is given is a least one, whatever drawing it comes to
+given_row : (evidence : Evidence) (bytes : List ℕ) (inputs : Inputs) (row : List Column) (drawing : DrawAnswer) → IsLeast inputs.fingers row → IsRowBy (File evidence bytes) inputs row drawing
+given_row evidence bytes inputs row (RowDrawn routing xs) least = least
+given_row evidence bytes inputs row (RowCyclic ring) least = least
+given_row evidence bytes inputs row (RowTall routing) least = least
 
-given_so : (evidence : Evidence) (bytes : List ℕ) (style : Style) (inputs : Inputs) (row : List Column) (drawing : DrawAnswer) → Draws style inputs row drawing → IsDrawnBy (File evidence bytes) style inputs row (IsRouted style inputs row) drawing
-given_so evidence bytes style inputs row drawing h = record {
+given_so : (evidence : Evidence) (bytes : List ℕ) (style : Style) (inputs : Inputs) (row : List Column) (drawing : DrawAnswer) → IsLeast inputs.fingers row → Draws style inputs row drawing → IsDrawnBy (File evidence bytes) style inputs row (IsRouted style inputs row) drawing
+given_so evidence bytes style inputs row drawing least h = record {
   routed = λ routing r. record { acyclic = r.acyclic; legal = r.legal; tracks = r.tight };
-  stops = no_stop evidence bytes inputs row drawing;
+  from = given_row evidence bytes inputs row drawing least;
   draws = h;
 }
 
 listed_leaves : (evidence : Evidence) (style : Style) (inputs : Inputs) (bytes out : List ℕ) (row : List Column) (certificate : Certificate) (drawing : DrawAnswer) (end : End) (answer : Status) (old new : View) (Is : Status → Type 0) → (IsMadeCell (File evidence bytes) style inputs out old new → Is status.Done) → (IsCyclicCell (File evidence bytes) style inputs out old new → Is status.Cycle) → (IsTallCell (File evidence bytes) style inputs out old new → Is status.TooTall) → IsListedBy evidence inputs bytes row certificate → Draws style inputs row drawing → IsRowEnd style inputs out row (given_evidence certificate) drawing end → TellsWhole end answer old new → Is answer
 listed_leaves Log style inputs bytes out row (held.Log log) drawing end answer old new Is made cyclic tall listed h is whole =
-    row_leaves (File Log bytes) style inputs out row log (IsRouted style inputs row) drawing end answer old new Is made cyclic tall (record { arranges = listed.arranges; least = listed.least }) listed (given_so Log bytes style inputs row drawing h) is whole
+    row_leaves (File Log bytes) style inputs out row log (IsRouted style inputs row) drawing end answer old new Is made cyclic tall listed (given_so Log bytes style inputs row drawing (record { arranges = listed.arranges; least = listed.least }) h) is whole
 listed_leaves Trails style inputs bytes out row (held.Trails found) drawing end answer old new Is made cyclic tall listed h is whole =
-    row_leaves (File Trails bytes) style inputs out row found (IsRouted style inputs row) drawing end answer old new Is made cyclic tall (record { arranges = listed.arranges; least = listed.least }) listed (given_so Trails bytes style inputs row drawing h) is whole
+    row_leaves (File Trails bytes) style inputs out row found (IsRouted style inputs row) drawing end answer old new Is made cyclic tall listed (given_so Trails bytes style inputs row drawing (record { arranges = listed.arranges; least = listed.least }) h) is whole
 listed_leaves Log style inputs bytes out row (held.Trails found) drawing end answer old new Is made cyclic tall listed h is whole = absurd listed
 listed_leaves Trails style inputs bytes out row (held.Log log) drawing end answer old new Is made cyclic tall listed h is whole = absurd listed
 
@@ -152,10 +153,14 @@ listed_accepted Trails inputs bytes row (held.Log log) listed = absurd listed
 
 -- what the end of a row settles, the end settles where the file is accepted
 listed_where : (Says : Style → Inputs → List Column → Type 0) (settled : Status) (m : FromMaterial) (end : End) → ((row : List Column) (told : RowEvidence) (drawing : DrawAnswer) → Says m.style m.inputs row → Draws m.style m.inputs row drawing → IsRowEnd m.style m.inputs m.stem row told drawing end → end.status ≡ settled) → OfListed Says m → MakesFromTo m.evidence m.style m.inputs m.bytes m.stem end → end.status ≡ settled
-listed_where Says settled m end each (accepted, so) (inl (row, certificate, listed, (drawing, h, is))) =
+listed_where Says settled m end each (accepted, few, so) (inl (row, certificate, listed, (drawing, h, is))) =
     let (found, lists) = listed_in m.evidence m.inputs m.bytes row certificate listed in
     each row (given_evidence certificate) drawing (so row found lists) h is
-listed_where Says settled m end each (accepted, so) (inr (checks, rejected)) = absurd (differ status.Done status.Rejected refl (sym (holds_done m.evidence m.inputs m.bytes end accepted checks) ∙ rejected))
+listed_where Says settled m end each (accepted, few, so) (inr (checks, rejected)) =
+    elim (holds_done m.evidence m.inputs m.bytes end accepted checks) [
+      | inl done ↦ absurd (differ status.Done status.Rejected refl (sym done ∙ rejected))
+      | inr crowded ↦ absurd (few crowded)
+    ]
 
 rejected_where : (m : FromMaterial) (end : End) → IsUnaccepted m → MakesFromTo m.evidence m.style m.inputs m.bytes m.stem end → end.status ≡ status.Rejected
 rejected_where m end none (inl (row, certificate, listed, drawn)) = absurd (none (listed_accepted m.evidence m.inputs m.bytes row certificate listed))

@@ -1,7 +1,8 @@
 -- That `make` with `--low` draws each cell that `make` draws, from what the work results in.
-use Rattle.std.proofs.Common.{ℕ, ◌≡◌, ◌≤◌, ◌⊎◌, true, List, [], ◌∷◌, Option, Some, None, Result, Ok, IfSome, inl, inr, refl, sym, subst, ◌∙◌}
+use Rattle.std.proofs.Common.{ℕ, ◌≡◌, ◌≤◌, ◌⊎◌, true, List, [], ◌∷◌, Option, Some, None, Result, Ok, IfSome, inl, inr, refl, sym, subst, arith, ◌∙◌}
 use Rattle.cell_io.specs.Desk.{Files, View}
 use Rattle.row_model.specs.declared.column.Column.{Column}
+use Rattle.row_model.specs.Gaps.{gaps_of}
 use Rattle.row_search.specs.First.{IsFirstLeast}
 use Rattle.row_place.specs.Places.{placement_of}
 use Rattle.channel_route.specs.declared.ring.Ring.{Ring}
@@ -23,11 +24,10 @@ use Rattle.call_work.proofs.Statuses.{among_one}
 use Rattle.call_work.specs.declared.material.LowMaterial.{LowMaterial}
 use Rattle.cell_inputs.specs.declared.style.Taps.{Taps}
 use Rattle.cell_inputs.specs.Inputs.{Inputs}
-use Rattle.cell_make.proofs.Rings.{no_ring, ring_is}
-use Rattle.cell_make.specs.Low.{DrawsLow, HasFirstLeast, IsLowRouted, low_style}
+use Rattle.cell_make.proofs.RowOrder.{one_row}
+use Rattle.cell_make.specs.Low.{DrawsLow, HasFirstLeast, IsFirstLeastWired, IsLeastWired, IsLowRouted, IsRinged, IsWired, low_style}
 use Rattle.cell_make.specs.Rows.{DrawAnswer, RowDrawn, RowCyclic, RowTall}
 use Rattle.cell_make.specs.Making.{IsRouted}
-use Rattle.cell_make.specs.Style.{IsToldRing}
 use Rattle.cell_commands.specs.declared.certificate.Certificate.{Certificate}
 use Rattle.cell_commands.specs.Low.{MakesLowTo, low_evidence}
 use Rattle.cell_commands.specs.Low as low
@@ -41,7 +41,6 @@ use Rattle.cell_run.proofs.Worked.{Completes, IsAnswered, settles}
 use Rattle.cell_run.specs.Calm.{IsCalm, IsDoneOrShort}
 use Rattle.cell_run.specs.Headline.{CanBeDrawn, IsOrShort, IsUnmade}
 use Rattle.cell_run.specs.Low.{CanBeMadeLow, CanFirstBeDrawn, DrawsFirst, LeavesGapsOpen, DrawsLow as CanDraw}
-use Rattle.cell_commands.proofs.Lows.{first_least}
 
 -- ---- the first least row
 
@@ -63,26 +62,35 @@ drawn_first taps inputs there can =
 
 -- ---- where the budget is enough
 
+-- the first least row is the first that can be wired with the fewest gaps
+first_wired : (taps : Taps) (inputs : Inputs) (row : List Column) (drawn : IsDrawnFirst taps inputs) → IsFirstLeastWired inputs row → drawn.row ≡ row
+first_wired taps inputs row drawn first =
+    let wired : IsWired inputs drawn.row = (drawn.routing, drawn.routed.legal) in
+    let least : IsLeastWired inputs drawn.row = record { arranges = drawn.first.arranges; wired = wired; least = λ other arranged able. drawn.first.least other arranged } in
+    let same : gaps_of row ≡ gaps_of drawn.row = omega (arith, drawn.first.least row first.least.arranges, first.least.least drawn.row drawn.first.arranges wired) in
+    one_row drawn.row row (drawn.first.first row first.least.arranges same) (first.first drawn.row least)
+
 -- the lowest row has no more tracks than the first least one, so it is no taller
 pub never_tall : (taps : Taps) (inputs : Inputs) (row : List Column) (tracks : TrackCertificate) (routing : Routing) → CanFirstBeDrawn (low_style taps) inputs → IsDrawnFirst taps inputs → IsLowRouted (low_style taps) inputs row tracks routing → IsTooTall row routing.tracks inputs.tech.height → ⊥
-never_tall taps inputs row tracks routing can drawn (inr h) tall = (can row h.first).fits routing h.routed tall
+never_tall taps inputs row tracks routing can drawn (inr h) tall =
+    let first : IsFirstLeast inputs.fingers row = subst (IsFirstLeast inputs.fingers) (first_wired taps inputs row drawn h.first) drawn.first in
+    (can row first).fits routing h.routed tall
 never_tall taps inputs row tracks routing can drawn (inl h) tall =
-    let few : routing.tracks ≤ drawn.routing.tracks = subst (λ (n : ℕ). n ≤ drawn.routing.tracks) (sym h.on) (h.fewest drawn.row drawn.routing (first_least inputs drawn.row drawn.first) drawn.routed.legal) in
+    let few : routing.tracks ≤ drawn.routing.tracks = h.fewest drawn.row drawn.routing drawn.first.arranges (drawn.first.least row h.least.arranges) drawn.routed.legal in
     drawn.fits (also_tall inputs.fingers row drawn.row routing.tracks drawn.routing.tracks inputs.tech.height h.least.arranges drawn.first.arranges few tall)
 
 low_draws : (taps : Taps) (inputs : Inputs) (out : List ℕ) (row : List Column) (certificate : Certificate) (tracks : TrackCertificate) (drawing : DrawAnswer) (end : End) → CanFirstBeDrawn (low_style taps) inputs → IsDrawnFirst taps inputs → DrawsLow (low_style taps) inputs row tracks drawing → IsRowEnd (low_style taps) inputs out row (low_evidence inputs.cell out certificate tracks) drawing end → end.status ≡ status.Done
 low_draws taps inputs out row certificate tracks (RowDrawn routing xs) end can drawn h is = is.status
-low_draws taps inputs out row certificate tracks (RowCyclic ring) end can drawn (draws, (first, none)) is = absurd (none.none drawn.row drawn.routing (first_least inputs drawn.row drawn.first) drawn.routed.legal)
+low_draws taps inputs out row certificate tracks (RowCyclic ring) end can drawn (draws, (first, none)) is = absurd (none.none drawn.row drawn.first.arranges (drawn.routing, drawn.routed.legal))
 low_draws taps inputs out row certificate tracks (RowTall routing) end can drawn ((routed, tall), stop) is = absurd (never_tall taps inputs row tracks routing can drawn routed tall)
 
 -- the first least row has no ring
-never_unwired : (evidence : Evidence) (taps : Taps) (inputs : Inputs) (row : List Column) (certificate : Certificate) (ring : Ring) → CanFirstBeDrawn (low_style taps) inputs → IsFoundBy evidence inputs row certificate → IsToldRing (low_style taps).wiring (placement_of row) inputs.cell.pins ring → ⊥
-never_unwired evidence taps inputs row certificate ring can found told =
-    no_ring (low_style taps).wiring (placement_of row) inputs.cell.pins ring (can row (found_first evidence inputs row certificate found)).acyclic (ring_is (low_style taps).wiring (placement_of row) inputs.cell.pins ring told)
+never_unwired : (evidence : Evidence) (taps : Taps) (inputs : Inputs) (row : List Column) (certificate : Certificate) (ring : Ring) → CanFirstBeDrawn (low_style taps) inputs → IsFoundBy evidence inputs row certificate → IsRinged inputs row ring → ⊥
+never_unwired evidence taps inputs row certificate ring can found ringed = ringed.cyclic (can row (found_first evidence inputs row certificate found)).acyclic
 
 low_draws_where : (m : LowMaterial) (end : End) → CanBeMadeLow m → MakesLowTo m.evidence m.taps m.inputs m.stem end → end.status ≡ status.Done
 low_draws_where m end can (low.Made row certificate tracks drawing, (proves, certified, there, h), is) = low_draws m.taps m.inputs m.stem row certificate tracks drawing end can.1 (drawn_first m.taps m.inputs there can.1) h is
-low_draws_where m end can (low.Unwired row certificate tracks ring, (proves, spent, found, told), is) = absurd (never_unwired m.evidence m.taps m.inputs row certificate ring can.1 found told)
+low_draws_where m end can (low.Unwired row certificate tracks ring, (proves, spent, found, ringed), is) = absurd (never_unwired m.evidence m.taps m.inputs row certificate ring can.1 found ringed)
 low_draws_where m end can (low.Open proved certificate, h, is) = absurd (enough_found m.evidence m.inputs proved certificate can.0 h)
 low_draws_where m end can (low.Crowded gate, h, is) = absurd (enough_pairs m.evidence m.inputs gate can.0 h)
 
@@ -94,13 +102,13 @@ low_draws_told a c form answer given told = settles MakingLow CanBeMadeLow form 
 -- the first search alone can be left open
 drawn_or_open : (m : LowMaterial) (end : End) → CanFirstBeDrawn (low_style m.taps) m.inputs → MakesLowTo m.evidence m.taps m.inputs m.stem end → (end.status ≡ status.Done) ⊎ (end.status ≡ status.Unfinished)
 drawn_or_open m end can (low.Made row certificate tracks drawing, (proves, certified, there, h), is) = inl (low_draws m.taps m.inputs m.stem row certificate tracks drawing end can (drawn_first m.taps m.inputs there can) h is)
-drawn_or_open m end can (low.Unwired row certificate tracks ring, (proves, spent, found, told), is) = absurd (never_unwired m.evidence m.taps m.inputs row certificate ring can found told)
+drawn_or_open m end can (low.Unwired row certificate tracks ring, (proves, spent, found, ringed), is) = absurd (never_unwired m.evidence m.taps m.inputs row certificate ring can found ringed)
 drawn_or_open m end can (low.Open proved certificate, h, is) = inr is.status
 drawn_or_open m end can (low.Crowded gate, h, is) = inr is.status
 
 keeps_so : (m : LowMaterial) (end : End) (answer : Status) (old new : View) → CanFirstBeDrawn (low_style m.taps) m.inputs → MakesLowTo m.evidence m.taps m.inputs m.stem end → TellsWhole end answer old new → (answer ≡ status.Done) ⊎ ((answer ≡ status.Unfinished) × IsUnmade m.evidence m.inputs m.stem old new)
 keeps_so m end answer old new can (low.Made row certificate tracks drawing, (proves, certified, there, h), is) whole = inl (whole.0 ∙ low_draws m.taps m.inputs m.stem row certificate tracks drawing end can (drawn_first m.taps m.inputs there can) h is)
-keeps_so m end answer old new can (low.Unwired row certificate tracks ring, (proves, spent, found, told), is) whole = absurd (never_unwired m.evidence m.taps m.inputs row certificate ring can found told)
+keeps_so m end answer old new can (low.Unwired row certificate tracks ring, (proves, spent, found, ringed), is) whole = absurd (never_unwired m.evidence m.taps m.inputs row certificate ring can found ringed)
 keeps_so m end answer old new can (low.Open proved certificate, h, is) whole = inr (whole.0 ∙ is.status, inl (open_so m.evidence m.inputs m.stem proved certificate end answer old new h is whole))
 keeps_so m end answer old new can (low.Crowded gate, h, is) whole = inr (whole.0 ∙ is.status, inr (crowded_so m.evidence m.inputs gate end answer old new h is whole))
 

@@ -2,8 +2,8 @@
 use Rattle.std.proofs.Common.{ℕ, ◌≡◌, ◌⊎◌, true, List, Option, Some, None, Result, Ok, IfSome, inl, inr, ap, sym, subst, ◌∙◌}
 use Rattle.cell_io.specs.Desk.{Files, View}
 use Rattle.cell_num.proofs.Lists.{some_same}
+use Rattle.bound_log.specs.declared.log.Log.{Log as SearchLog}
 use Rattle.row_model.specs.declared.column.Column.{Column}
-use Rattle.row_place.specs.Places.{placement_of}
 use Rattle.channel_route.specs.declared.ring.Ring.{Ring}
 use Rattle.channel_route.specs.declared.routing.Routing.{Routing}
 use Rattle.track_log.specs.declared.certificate.TrackCertificate.{TrackCertificate}
@@ -25,26 +25,24 @@ use Rattle.call_work.specs.Ends.{is_among}
 use Rattle.call_work.specs.declared.material.LowMaterial.{LowMaterial}
 use Rattle.cell_inputs.specs.declared.style.Taps.{Taps}
 use Rattle.cell_inputs.specs.Inputs.{Inputs}
-use Rattle.cell_make.proofs.Rings.{ring_is}
-use Rattle.cell_make.specs.Low.{DrawsLow, IsLeast, IsLowRouted, IsLowStop, IsTrackSpent, ProvesTracks, low_style}
+use Rattle.cell_make.specs.Low.{DrawsLow, IsLeastWired, IsLowRouted, IsRinged, IsWiredSpent, ProvesTracks, low_style}
 use Rattle.cell_make.specs.Rows.{DrawAnswer, RowDrawn, RowCyclic, RowTall}
-use Rattle.cell_make.specs.Style.{IsToldRing}
 use Rattle.cell_commands.specs.declared.certificate.Certificate.{Certificate}
 use Rattle.cell_commands.specs.declared.certificate.Certificate.TheVariants as held
-use Rattle.cell_commands.specs.Low.{IsUnwiredEnd, MakesLowTo, low_evidence}
+use Rattle.cell_commands.specs.Low.{IsLowCertifiedBy, IsUnwiredEnd, MakesLowTo, low_evidence}
 use Rattle.cell_commands.specs.Low as low
 use Rattle.cell_commands.proofs.LowAccepted.{accepted_tracks}
-use Rattle.cell_commands.proofs.Lows.{first_least}
 use Rattle.cell_commands.specs.RowEnd.{IsRowEnd}
-use Rattle.cell_commands.specs.Searched.{IsCertifiedBy, IsFoundBy}
+use Rattle.cell_commands.specs.Searched.{IsFoundBy}
 use Rattle.cell_run.proofs.MadeFiles.{none_drawn}
-use Rattle.cell_run.proofs.MakeSettled.{IsDrawnBy, IsRowRouted, IsStopBy, by_end, crowded_so, open_so, row_leaves, said_so}
+use Rattle.cell_run.proofs.MakeSettled.{IsDrawnBy, IsRowBy, IsRowRouted, by_end, crowded_so, open_so, row_leaves, said_so}
 use Rattle.cell_run.proofs.Worked.{IsAnswered, ends_told, work_statuses}
 use Rattle.cell_run.specs.Ended.{WhereEnds}
 use Rattle.cell_run.specs.Evidence.{evidence_text}
 use Rattle.cell_run.specs.Headline.{IsCyclicCell, IsMadeCell, IsTallCell, IsUnmade}
 use Rattle.cell_run.specs.Low.{IsAskedLow, IsMakeLow, IsUnwiredCell}
-use Rattle.cell_run.specs.Origin.{CertifiesFewest, Low}
+use Rattle.cell_run.specs.Origin.{CertifiesFewest, CertifiesLow, Low}
+use Rattle.trail_log.specs.declared.trails.TrailCertificate.{TrailCertificate}
 
 -- ---- what the words ask for
 
@@ -84,25 +82,20 @@ low_routed : (evidence : Evidence) (taps : Taps) (inputs : Inputs) (row : List C
 low_routed evidence taps inputs row tracks routing (inl h) = record { acyclic = h.acyclic; legal = h.legal; tracks = inl h }
 low_routed evidence taps inputs row tracks routing (inr h) = record { acyclic = h.routed.acyclic; legal = h.routed.legal; tracks = inr h }
 
-routed_least : (taps : Taps) (inputs : Inputs) (row : List Column) (tracks : TrackCertificate) (routing : Routing) → IsLowRouted (low_style taps) inputs row tracks routing → IsLeast inputs.fingers row
-routed_least taps inputs row tracks routing (inl h) = h.least
-routed_least taps inputs row tracks routing (inr h) = first_least inputs row h.first
+routed_wired : (taps : Taps) (inputs : Inputs) (row : List Column) (tracks : TrackCertificate) (routing : Routing) → IsLowRouted (low_style taps) inputs row tracks routing → IsLeastWired inputs row
+routed_wired taps inputs row tracks routing (inl h) = h.least
+routed_wired taps inputs row tracks routing (inr h) = h.first.least
 
-low_least : (taps : Taps) (inputs : Inputs) (row : List Column) (tracks : TrackCertificate) (drawing : DrawAnswer) → DrawsLow (low_style taps) inputs row tracks drawing → IsLeast inputs.fingers row
-low_least taps inputs row tracks (RowDrawn routing xs) (draws, stop) = routed_least taps inputs row tracks routing draws.routed
-low_least taps inputs row tracks (RowCyclic ring) (draws, stop) = first_least inputs row stop.0
-low_least taps inputs row tracks (RowTall routing) (draws, stop) = routed_least taps inputs row tracks routing draws.0
-
-low_stops : (evidence : Evidence) (inputs : Inputs) (row : List Column) (tracks : TrackCertificate) (drawing : DrawAnswer) → IsLowStop inputs row tracks drawing → IsStopBy (Low evidence tracks) inputs row drawing
-low_stops evidence inputs row tracks (RowDrawn routing xs) stop = tt
-low_stops evidence inputs row tracks (RowCyclic ring) stop = stop
-low_stops evidence inputs row tracks (RowTall routing) stop = tt
+low_row : (evidence : Evidence) (taps : Taps) (inputs : Inputs) (row : List Column) (tracks : TrackCertificate) (drawing : DrawAnswer) → DrawsLow (low_style taps) inputs row tracks drawing → IsRowBy (Low evidence tracks) inputs row drawing
+low_row evidence taps inputs row tracks (RowDrawn routing xs) (draws, stop) = routed_wired taps inputs row tracks routing draws.routed
+low_row evidence taps inputs row tracks (RowCyclic ring) (draws, stop) = stop
+low_row evidence taps inputs row tracks (RowTall routing) (draws, stop) = routed_wired taps inputs row tracks routing draws.0
 
 low_drawn : (evidence : Evidence) (taps : Taps) (inputs : Inputs) (row : List Column) (tracks : TrackCertificate) (drawing : DrawAnswer) → DrawsLow (low_style taps) inputs row tracks drawing → IsDrawnBy (Low evidence tracks) (low_style taps) inputs row (IsLowRouted (low_style taps) inputs row tracks) drawing
-low_drawn evidence taps inputs row tracks drawing (draws, stop) = record {
+low_drawn evidence taps inputs row tracks drawing h = record {
   routed = λ routing r. low_routed evidence taps inputs row tracks routing r;
-  stops = low_stops evidence inputs row tracks drawing stop;
-  draws = draws;
+  from = low_row evidence taps inputs row tracks drawing h;
+  draws = h.0;
 }
 
 -- ---- what it leaves, by its status
@@ -111,25 +104,36 @@ abbrev pub LowLeaves : Evidence → Taps → Inputs → List ℕ → View → Vi
 LowLeaves evidence taps inputs out old new status.Done = (tracks : TrackCertificate) × IsMadeCell (Low evidence tracks) (low_style taps) inputs out old new
 LowLeaves evidence taps inputs out old new status.Cycle = (tracks : TrackCertificate) × IsCyclicCell (Low evidence tracks) (low_style taps) inputs out old new
 LowLeaves evidence taps inputs out old new status.TooTall = (tracks : TrackCertificate) × IsTallCell (Low evidence tracks) (low_style taps) inputs out old new
-LowLeaves evidence taps inputs out old new status.Unfinished = IsUnmade evidence inputs out old new ⊎ IsUnwiredCell evidence (low_style taps) inputs out old new
+LowLeaves evidence taps inputs out old new status.Unfinished = IsUnmade evidence inputs out old new ⊎ IsUnwiredCell evidence inputs out old new
 LowLeaves evidence taps inputs out old new _ = Unit {0}
 
 -- `check .. --low` accepts the text of what proves the fewest tracks
 fewest_certified : (inputs : Inputs) (tracks : TrackCertificate) → ProvesTracks inputs tracks → CertifiesFewest inputs tracks
 fewest_certified inputs tracks proves = record { proves = proves; accepted = accepted_tracks inputs tracks proves }
 
-made_so : (evidence : Evidence) (taps : Taps) (inputs : Inputs) (out : List ℕ) (row : List Column) (certificate : Certificate) (tracks : TrackCertificate) (drawing : DrawAnswer) (end : End) (answer : Status) (old new : View) → ProvesTracks inputs tracks → IsCertifiedBy evidence inputs row certificate → DrawsLow (low_style taps) inputs row tracks drawing → IsRowEnd (low_style taps) inputs out row (low_evidence inputs.cell out certificate tracks) drawing end → TellsWhole end answer old new → LowLeaves evidence taps inputs out old new answer
+-- the certificate of the fewest gaps, by its kind
+low_log : (inputs : Inputs) (row : List Column) (log : SearchLog) → IsLowCertifiedBy Log inputs row (held.Log log) → CertifiesLow Log inputs row log
+low_log inputs row log (inl is) = inl is
+low_log inputs row log (inr (least, more, found)) = inr (record { least = least; first = found.first; more = more; certified = found.certified })
+
+low_trails : (inputs : Inputs) (row : List Column) (trails : TrailCertificate) → IsLowCertifiedBy Trails inputs row (held.Trails trails) → CertifiesLow Trails inputs row trails
+low_trails inputs row trails (inl is) = inl is
+low_trails inputs row trails (inr (least, more, found)) = inr (record { least = least; first = found.first; more = more; certified = found.certified })
+
+made_so : (evidence : Evidence) (taps : Taps) (inputs : Inputs) (out : List ℕ) (row : List Column) (certificate : Certificate) (tracks : TrackCertificate) (drawing : DrawAnswer) (end : End) (answer : Status) (old new : View) → ProvesTracks inputs tracks → IsLowCertifiedBy evidence inputs row certificate → DrawsLow (low_style taps) inputs row tracks drawing → IsRowEnd (low_style taps) inputs out row (low_evidence inputs.cell out certificate tracks) drawing end → TellsWhole end answer old new → LowLeaves evidence taps inputs out old new answer
 made_so Log taps inputs out row (held.Log log) tracks drawing end answer old new proves certified h is whole =
     row_leaves (Low Log tracks) (low_style taps) inputs out row log (IsLowRouted (low_style taps) inputs row tracks) drawing end answer old new (LowLeaves Log taps inputs out old new) (λ x. (tracks, x)) (λ x. (tracks, x)) (λ x. (tracks, x))
-    (low_least taps inputs row tracks drawing h) (certified, fewest_certified inputs tracks proves) (low_drawn Log taps inputs row tracks drawing h) is whole
+    (low_log inputs row log certified, fewest_certified inputs tracks proves) (low_drawn Log taps inputs row tracks drawing h) is whole
 made_so Trails taps inputs out row (held.Trails trails) tracks drawing end answer old new proves certified h is whole =
     row_leaves (Low Trails tracks) (low_style taps) inputs out row trails (IsLowRouted (low_style taps) inputs row tracks) drawing end answer old new (LowLeaves Trails taps inputs out old new) (λ x. (tracks, x)) (λ x. (tracks, x)) (λ x. (tracks, x))
-    (low_least taps inputs row tracks drawing h) (certified, fewest_certified inputs tracks proves) (low_drawn Trails taps inputs row tracks drawing h) is whole
-made_so Log taps inputs out row (held.Trails trails) tracks drawing end answer old new proves certified h is whole = absurd certified
-made_so Trails taps inputs out row (held.Log log) tracks drawing end answer old new proves certified h is whole = absurd certified
+    (low_trails inputs row trails certified, fewest_certified inputs tracks proves) (low_drawn Trails taps inputs row tracks drawing h) is whole
+made_so Log taps inputs out row (held.Trails trails) tracks drawing end answer old new proves (inl none) h is whole = absurd none
+made_so Log taps inputs out row (held.Trails trails) tracks drawing end answer old new proves (inr (least, more, none)) h is whole = absurd none
+made_so Trails taps inputs out row (held.Log log) tracks drawing end answer old new proves (inl none) h is whole = absurd none
+made_so Trails taps inputs out row (held.Log log) tracks drawing end answer old new proves (inr (least, more, none)) h is whole = absurd none
 
-unwired_so : (evidence : Evidence) (taps : Taps) (inputs : Inputs) (out : List ℕ) (row : List Column) (certificate : Certificate) (tracks : TrackCertificate) (ring : Ring) (end : End) (answer : Status) (old new : View) → ProvesTracks inputs tracks → IsTrackSpent inputs tracks → IsFoundBy evidence inputs row certificate → IsToldRing (low_style taps).wiring (placement_of row) inputs.cell.pins ring → IsUnwiredEnd inputs out certificate tracks ring end → TellsWhole end answer old new → IsUnwiredCell evidence (low_style taps) inputs out old new
-unwired_so Log taps inputs out row (held.Log log) tracks ring end answer old new proves spent found told is whole = record {
+unwired_so : (evidence : Evidence) (inputs : Inputs) (out : List ℕ) (row : List Column) (certificate : Certificate) (tracks : TrackCertificate) (ring : Ring) (end : End) (answer : Status) (old new : View) → ProvesTracks inputs tracks → IsWiredSpent inputs tracks → IsFoundBy evidence inputs row certificate → IsRinged inputs row ring → IsUnwiredEnd inputs out certificate tracks ring end → TellsWhole end answer old new → IsUnwiredCell evidence inputs out old new
+unwired_so Log inputs out row (held.Log log) tracks ring end answer old new proves spent found ringed is whole = record {
   row = row;
   certificate = log;
   tracks = tracks;
@@ -138,12 +142,11 @@ unwired_so Log taps inputs out row (held.Log log) tracks ring end answer old new
   certified = found.certified;
   fewest = fewest_certified inputs tracks proves;
   spent = spent;
-  is_ring = ring_is (low_style taps).wiring (placement_of row) inputs.cell.pins ring told;
-  is_told = told;
+  ringed = ringed;
   files = none_drawn (Low Log tracks) inputs.cell out (evidence_text Log inputs.cell.name log) end.files old.made new.made is.files whole.1;
   says = said_so _ end.report old.said new.said is.report whole.2;
 }
-unwired_so Trails taps inputs out row (held.Trails trails) tracks ring end answer old new proves spent found told is whole = record {
+unwired_so Trails inputs out row (held.Trails trails) tracks ring end answer old new proves spent found ringed is whole = record {
   row = row;
   certificate = trails;
   tracks = tracks;
@@ -152,19 +155,18 @@ unwired_so Trails taps inputs out row (held.Trails trails) tracks ring end answe
   certified = found.certified;
   fewest = fewest_certified inputs tracks proves;
   spent = spent;
-  is_ring = ring_is (low_style taps).wiring (placement_of row) inputs.cell.pins ring told;
-  is_told = told;
+  ringed = ringed;
   files = none_drawn (Low Trails tracks) inputs.cell out (evidence_text Trails inputs.cell.name trails) end.files old.made new.made is.files whole.1;
   says = said_so _ end.report old.said new.said is.report whole.2;
 }
-unwired_so Log taps inputs out row (held.Trails trails) tracks ring end answer old new proves spent found told is whole = absurd found
-unwired_so Trails taps inputs out row (held.Log log) tracks ring end answer old new proves spent found told is whole = absurd found
+unwired_so Log inputs out row (held.Trails trails) tracks ring end answer old new proves spent found ringed is whole = absurd found
+unwired_so Trails inputs out row (held.Log log) tracks ring end answer old new proves spent found ringed is whole = absurd found
 
 low_leaves_so : (evidence : Evidence) (taps : Taps) (inputs : Inputs) (out : List ℕ) (end : End) (answer : Status) (old new : View) → MakesLowTo evidence taps inputs out end → TellsWhole end answer old new → LowLeaves evidence taps inputs out old new answer
 low_leaves_so evidence taps inputs out end answer old new (low.Made row certificate tracks drawing, (proves, certified, there, h), is) whole =
     made_so evidence taps inputs out row certificate tracks drawing end answer old new proves certified h is whole
-low_leaves_so evidence taps inputs out end answer old new (low.Unwired row certificate tracks ring, (proves, spent, found, told), is) whole =
-    by_end (LowLeaves evidence taps inputs out old new) status.Unfinished answer end old new is.status whole (inr (unwired_so evidence taps inputs out row certificate tracks ring end answer old new proves spent found told is whole))
+low_leaves_so evidence taps inputs out end answer old new (low.Unwired row certificate tracks ring, (proves, spent, found, ringed), is) whole =
+    by_end (LowLeaves evidence taps inputs out old new) status.Unfinished answer end old new is.status whole (inr (unwired_so evidence inputs out row certificate tracks ring end answer old new proves spent found ringed is whole))
 low_leaves_so evidence taps inputs out end answer old new (low.Open proved certificate, h, is) whole =
     by_end (LowLeaves evidence taps inputs out old new) status.Unfinished answer end old new is.status whole (inl (inl (open_so evidence inputs out proved certificate end answer old new h is whole)))
 low_leaves_so evidence taps inputs out end answer old new (low.Crowded gate, h, is) whole =

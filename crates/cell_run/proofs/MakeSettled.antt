@@ -5,6 +5,7 @@ use Rattle.cell_draw.specs.Frame.{IsTooTall}
 use Rattle.cell_num.specs.declared.net.NetNo.{NetNo}
 use Rattle.row_model.specs.declared.column.Column.{Column}
 use Rattle.row_place.specs.Places.{placement_of}
+use Rattle.row_search.specs.First.{IsFirstLeast}
 use Rattle.call_end.specs.declared.end.End.{End}
 use Rattle.call_end.specs.declared.status.Status.{Status}
 use Rattle.call_end.specs.declared.status.Status.TheVariants as status
@@ -54,16 +55,16 @@ pub record IsRowRouted (origin : Origin) (style : Style) (inputs : Inputs) (row 
   pub legal : AreLegal style.wiring (placement_of row) inputs.cell.pins routing
   pub tracks : IsRoutedOf origin style inputs row routing
 
--- what a ring says of it
-abbrev pub IsStopBy : Origin → Inputs → List Column → DrawAnswer → Type 0
-IsStopBy origin inputs row (RowDrawn routing xs) = Unit {0}
-IsStopBy origin inputs row (RowCyclic ring) = IsStopOf origin inputs row
-IsStopBy origin inputs row (RowTall routing) = Unit {0}
+-- which row it is, by what drawing it comes to
+abbrev pub IsRowBy : Origin → Inputs → List Column → DrawAnswer → Type 0
+IsRowBy origin inputs row (RowDrawn routing xs) = IsRowOf origin inputs row
+IsRowBy origin inputs row (RowCyclic ring) = IsStopOf origin inputs row
+IsRowBy origin inputs row (RowTall routing) = IsRowOf origin inputs row
 
 -- A row of this origin is drawn so: what is said of its channel says this of it.
 pub record IsDrawnBy (origin : Origin) (style : Style) (inputs : Inputs) (row : List Column) (Routed : Routing → Type 0) (drawing : DrawAnswer) : Type 0 where
   pub routed : (routing : Routing) → Routed routing → IsRowRouted origin style inputs row routing
-  pub stops : IsStopBy origin inputs row drawing
+  pub from : IsRowBy origin inputs row drawing
   pub draws : DrawsAs Routed style inputs row drawing
 
 -- the end of a search that spent its budget
@@ -90,7 +91,7 @@ said_so text report old new is said = subst (λ (t : List ℕ). Both (Says t) ol
 
 -- ---- a row, by what drawing it comes to
 
-drawn_so : (origin : Origin) (style : Style) (inputs : Inputs) (out : List ℕ) (row : List Column) (certificate : Certificate (kind_of_evidence origin)) (Routed : Type 0) (routing : Routing) (xs : List ℕ) (end : End) (answer : Status) (old new : View) → IsRowOf origin inputs.fingers row → CertifiesBy origin inputs row certificate → (Routed → IsRowRouted origin style inputs row routing) → made.IsDrawnAs Routed style inputs row routing xs → IsRowEnd style inputs out row (told_evidence origin inputs out certificate) (RowDrawn routing xs) end → TellsWhole end answer old new → IsMadeCell origin style inputs out old new
+drawn_so : (origin : Origin) (style : Style) (inputs : Inputs) (out : List ℕ) (row : List Column) (certificate : Certificate (kind_of_evidence origin)) (Routed : Type 0) (routing : Routing) (xs : List ℕ) (end : End) (answer : Status) (old new : View) → IsRowOf origin inputs row → CertifiesBy origin inputs row certificate → (Routed → IsRowRouted origin style inputs row routing) → made.IsDrawnAs Routed style inputs row routing xs → IsRowEnd style inputs out row (told_evidence origin inputs out certificate) (RowDrawn routing xs) end → TellsWhole end answer old new → IsMadeCell origin style inputs out old new
 drawn_so origin style inputs out row certificate Routed routing xs end answer old new first certified routed h is whole = record {
   row = row;
   certificate = certificate;
@@ -125,21 +126,20 @@ drawn_so origin style inputs out row certificate Routed routing xs end answer ol
   says = said_so _ end.report old.said new.said is.report whole.2;
 }
 
-cyclic_so : (origin : Origin) (style : Style) (inputs : Inputs) (out : List ℕ) (row : List Column) (certificate : Certificate (kind_of_evidence origin)) (ring : Ring) (end : End) (answer : Status) (old new : View) → IsRowOf origin inputs.fingers row → CertifiesBy origin inputs row certificate → IsStopOf origin inputs row → IsToldRing style.wiring (placement_of row) inputs.cell.pins ring → IsRowEnd style inputs out row (told_evidence origin inputs out certificate) (RowCyclic ring) end → TellsWhole end answer old new → IsCyclicCell origin style inputs out old new
-cyclic_so origin style inputs out row certificate ring end answer old new first certified stops h is whole = record {
+cyclic_so : (origin : Origin) (style : Style) (inputs : Inputs) (out : List ℕ) (row : List Column) (certificate : Certificate (kind_of_evidence origin)) (ring : Ring) (end : End) (answer : Status) (old new : View) → IsStopOf origin inputs row → CertifiesBy origin inputs row certificate → IsToldRing style.wiring (placement_of row) inputs.cell.pins ring → IsRowEnd style inputs out row (told_evidence origin inputs out certificate) (RowCyclic ring) end → TellsWhole end answer old new → IsCyclicCell origin style inputs out old new
+cyclic_so origin style inputs out row certificate ring end answer old new stops certified h is whole = record {
   row = row;
   certificate = certificate;
   ring = ring;
-  least = first;
+  stops = stops;
   certified = certified;
   is_ring = ring_is style.wiring (placement_of row) inputs.cell.pins ring h;
   is_told = h;
-  alone = stops;
   files = none_drawn origin inputs.cell out (evidence_text (kind_of_evidence origin) inputs.cell.name certificate) end.files old.made new.made is.files whole.1;
   says = said_so _ end.report old.said new.said is.report whole.2;
 }
 
-tall_so : (origin : Origin) (style : Style) (inputs : Inputs) (out : List ℕ) (row : List Column) (certificate : Certificate (kind_of_evidence origin)) (routing : Routing) (end : End) (answer : Status) (old new : View) → IsRowOf origin inputs.fingers row → CertifiesBy origin inputs row certificate → IsRowRouted origin style inputs row routing → IsTooTall row routing.tracks inputs.tech.height → IsRowEnd style inputs out row (told_evidence origin inputs out certificate) (RowTall routing) end → TellsWhole end answer old new → IsTallCell origin style inputs out old new
+tall_so : (origin : Origin) (style : Style) (inputs : Inputs) (out : List ℕ) (row : List Column) (certificate : Certificate (kind_of_evidence origin)) (routing : Routing) (end : End) (answer : Status) (old new : View) → IsRowOf origin inputs row → CertifiesBy origin inputs row certificate → IsRowRouted origin style inputs row routing → IsTooTall row routing.tracks inputs.tech.height → IsRowEnd style inputs out row (told_evidence origin inputs out certificate) (RowTall routing) end → TellsWhole end answer old new → IsTallCell origin style inputs out old new
 tall_so origin style inputs out row certificate routing end answer old new first certified routed tall is whole = record {
   row = row;
   certificate = certificate;
@@ -155,13 +155,13 @@ tall_so origin style inputs out row certificate routing end answer old new first
 }
 
 -- so it leaves what the three ends of a row leave, each by its status
-pub row_leaves : (origin : Origin) (style : Style) (inputs : Inputs) (out : List ℕ) (row : List Column) (certificate : Certificate (kind_of_evidence origin)) (Routed : Routing → Type 0) (drawing : DrawAnswer) (end : End) (answer : Status) (old new : View) (Is : Status → Type 0) → (IsMadeCell origin style inputs out old new → Is status.Done) → (IsCyclicCell origin style inputs out old new → Is status.Cycle) → (IsTallCell origin style inputs out old new → Is status.TooTall) → IsRowOf origin inputs.fingers row → CertifiesBy origin inputs row certificate → IsDrawnBy origin style inputs row Routed drawing → IsRowEnd style inputs out row (told_evidence origin inputs out certificate) drawing end → TellsWhole end answer old new → Is answer
-row_leaves origin style inputs out row certificate Routed (RowDrawn routing xs) end answer old new Is made cyclic tall first certified h is whole =
-    by_end Is status.Done answer end old new is.status whole (made (drawn_so origin style inputs out row certificate (Routed routing) routing xs end answer old new first certified (h.routed routing) h.draws is whole))
-row_leaves origin style inputs out row certificate Routed (RowCyclic ring) end answer old new Is made cyclic tall first certified h is whole =
-    by_end Is status.Cycle answer end old new is.status whole (cyclic (cyclic_so origin style inputs out row certificate ring end answer old new first certified h.stops h.draws is whole))
-row_leaves origin style inputs out row certificate Routed (RowTall routing) end answer old new Is made cyclic tall first certified h is whole =
-    by_end Is status.TooTall answer end old new is.status whole (tall (tall_so origin style inputs out row certificate routing end answer old new first certified (h.routed routing h.draws.0) h.draws.1 is whole))
+pub row_leaves : (origin : Origin) (style : Style) (inputs : Inputs) (out : List ℕ) (row : List Column) (certificate : Certificate (kind_of_evidence origin)) (Routed : Routing → Type 0) (drawing : DrawAnswer) (end : End) (answer : Status) (old new : View) (Is : Status → Type 0) → (IsMadeCell origin style inputs out old new → Is status.Done) → (IsCyclicCell origin style inputs out old new → Is status.Cycle) → (IsTallCell origin style inputs out old new → Is status.TooTall) → CertifiesBy origin inputs row certificate → IsDrawnBy origin style inputs row Routed drawing → IsRowEnd style inputs out row (told_evidence origin inputs out certificate) drawing end → TellsWhole end answer old new → Is answer
+row_leaves origin style inputs out row certificate Routed (RowDrawn routing xs) end answer old new Is made cyclic tall certified h is whole =
+    by_end Is status.Done answer end old new is.status whole (made (drawn_so origin style inputs out row certificate (Routed routing) routing xs end answer old new h.from certified (h.routed routing) h.draws is whole))
+row_leaves origin style inputs out row certificate Routed (RowCyclic ring) end answer old new Is made cyclic tall certified h is whole =
+    by_end Is status.Cycle answer end old new is.status whole (cyclic (cyclic_so origin style inputs out row certificate ring end answer old new h.from certified h.draws is whole))
+row_leaves origin style inputs out row certificate Routed (RowTall routing) end answer old new Is made cyclic tall certified h is whole =
+    by_end Is status.TooTall answer end old new is.status whole (tall (tall_so origin style inputs out row certificate routing end answer old new h.from certified (h.routed routing h.draws.0) h.draws.1 is whole))
 
 -- ---- by the kind of evidence
 
@@ -174,25 +174,25 @@ spent_so evidence inputs out proved certificate end answer old new h is whole = 
   says = said_so _ end.report old.said new.said is.report whole.2;
 }
 
--- a ring says nothing of a row that is searched for
-no_stop : (evidence : Evidence) (inputs : Inputs) (row : List Column) (drawing : DrawAnswer) → IsStopBy (Search evidence) inputs row drawing
-no_stop evidence inputs row (RowDrawn routing xs) = tt
-no_stop evidence inputs row (RowCyclic ring) = tt
-no_stop evidence inputs row (RowTall routing) = tt
+-- a row that is searched for is the first least one, whatever drawing it comes to
+searched_row : (evidence : Evidence) (inputs : Inputs) (row : List Column) (drawing : DrawAnswer) → IsFirstLeast inputs.fingers row → IsRowBy (Search evidence) inputs row drawing
+searched_row evidence inputs row (RowDrawn routing xs) first = first
+searched_row evidence inputs row (RowCyclic ring) first = first
+searched_row evidence inputs row (RowTall routing) first = first
 
-searched_so : (evidence : Evidence) (style : Style) (inputs : Inputs) (row : List Column) (drawing : DrawAnswer) → Draws style inputs row drawing → IsDrawnBy (Search evidence) style inputs row (made.IsRouted style inputs row) drawing
-searched_so evidence style inputs row drawing h = record {
+searched_so : (evidence : Evidence) (style : Style) (inputs : Inputs) (row : List Column) (drawing : DrawAnswer) → IsFirstLeast inputs.fingers row → Draws style inputs row drawing → IsDrawnBy (Search evidence) style inputs row (made.IsRouted style inputs row) drawing
+searched_so evidence style inputs row drawing first h = record {
   routed = λ routing r. record { acyclic = r.acyclic; legal = r.legal; tracks = r.tight };
-  stops = no_stop evidence inputs row drawing;
+  from = searched_row evidence inputs row drawing first;
   draws = h;
 }
 
 -- with an end of `make`
 made_so : (evidence : Evidence) (style : Style) (inputs : Inputs) (out : List ℕ) (row : List Column) (certificate : HeldCertificate) (drawing : DrawAnswer) (end : End) (answer : Status) (old new : View) → IsFoundBy evidence inputs row certificate → Draws style inputs row drawing → IsRowEnd style inputs out row (row_evidence inputs.cell out certificate) drawing end → TellsWhole end answer old new → Leaves evidence style inputs out old new answer
 made_so Log style inputs out row (held.Log log) drawing end answer old new found h is whole =
-    row_leaves (Search Log) style inputs out row log (made.IsRouted style inputs row) drawing end answer old new (Leaves Log style inputs out old new) (λ x. x) (λ x. x) (λ x. x) found.first found.certified (searched_so Log style inputs row drawing h) is whole
+    row_leaves (Search Log) style inputs out row log (made.IsRouted style inputs row) drawing end answer old new (Leaves Log style inputs out old new) (λ x. x) (λ x. x) (λ x. x) found.certified (searched_so Log style inputs row drawing found.first h) is whole
 made_so Trails style inputs out row (held.Trails trails) drawing end answer old new found h is whole =
-    row_leaves (Search Trails) style inputs out row trails (made.IsRouted style inputs row) drawing end answer old new (Leaves Trails style inputs out old new) (λ x. x) (λ x. x) (λ x. x) found.first found.certified (searched_so Trails style inputs row drawing h) is whole
+    row_leaves (Search Trails) style inputs out row trails (made.IsRouted style inputs row) drawing end answer old new (Leaves Trails style inputs out old new) (λ x. x) (λ x. x) (λ x. x) found.certified (searched_so Trails style inputs row drawing found.first h) is whole
 made_so Log style inputs out row (held.Trails trails) drawing end answer old new found h is whole = absurd found
 made_so Trails style inputs out row (held.Log log) drawing end answer old new found h is whole = absurd found
 

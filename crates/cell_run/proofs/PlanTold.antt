@@ -1,5 +1,5 @@
 -- What the top call owes of `plan` and `check`, from the end that the files call for and how it was told.
-use Rattle.std.proofs.Common.{ℕ, ◌≡◌, ◌⊎◌, ◌↔◌, List, Option, IfSome, inl, inr, refl, sym, ap, ◌∙◌, subst}
+use Rattle.std.proofs.Common.{ℕ, ◌≡◌, ◌⊎◌, List, Option, IfSome, inl, inr, refl, sym, ap, ◌∙◌, subst}
 use Rattle.cell_io.specs.Desk.{Files, View, Both}
 use Rattle.call_end.specs.Deliver.{Says, TellsWhole}
 use Rattle.call_end.specs.declared.end.End.{End}
@@ -20,10 +20,10 @@ use Rattle.cell_commands.specs.Plan.{PlansTo, Planned, Open, Crowded, plan_end}
 use Rattle.cell_commands.specs.Searched.{IsFoundBy, IsOpenBy}
 use Rattle.row_model.specs.declared.column.Column.{Column}
 use Rattle.cell_run.proofs.MakeTold.{enough_found, enough_pairs}
-use Rattle.cell_run.proofs.Worked.{Completes, IsAnswered, done_exactly, ends_told, settles}
+use Rattle.cell_run.proofs.Worked.{Completes, IsAnswered, done_or, ends_told, settles, settles_or}
 use Rattle.cell_run.specs.Calm.{IsCalm, IsDoneOrShort}
-use Rattle.cell_run.specs.Check.{HoldsAccepted, IsCheck}
-use Rattle.cell_run.specs.Evidence.{HasEnough, IsTextOfAccepted}
+use Rattle.cell_run.specs.Check.{HoldsAccepted, HoldsCrowded, IsCheck, IsDoneWhereHeld}
+use Rattle.cell_run.specs.Evidence.{HasEnough, IsTextOfAccepted, IsTextOfCrowded}
 use Rattle.cell_run.specs.Plan.{CanBePlanned, IsOpenSearch, IsPlannedRow, IsUnplanned, WherePlanEnds}
 use Rattle.cell_commands.proofs.TrailChecked as trails
 
@@ -79,12 +79,26 @@ done_holds : (evidence : Evidence) (inputs : Inputs) (bytes : List ℕ) (end : E
 done_holds Log inputs bytes end works done = log.done_holds inputs bytes end works done
 done_holds Trails inputs bytes end works done = trails.done_holds inputs bytes end works done
 
-pub holds_done : (evidence : Evidence) (inputs : Inputs) (bytes : List ℕ) (end : End) → IsTextOfAccepted evidence inputs bytes → ChecksBy evidence inputs bytes end → end.status ≡ status.Done
-holds_done Log inputs bytes end (gaps, lemmas, text) works = log.holds_done inputs bytes end gaps lemmas text works
+pub holds_done : (evidence : Evidence) (inputs : Inputs) (bytes : List ℕ) (end : End)
+    → IsTextOfAccepted evidence inputs bytes → ChecksBy evidence inputs bytes end
+    → (end.status ≡ status.Done) ⊎ IsTextOfCrowded evidence inputs bytes
+holds_done Log inputs bytes end (gaps, lemmas, text) works =
+    inl (log.holds_done inputs bytes end gaps lemmas text works)
 holds_done Trails inputs bytes end holds works = trails.holds_done inputs bytes end holds works
 
-pub checked_told : (a c : View) (form : Option Form) (answer : Status) (given : Option Files) → IfSome given (IsAnswered form a c answer) → IfSome given (λ files. IsCheck form → IsOfOutside answer ⊎ (answer ≡ status.Done ↔ HoldsAccepted files form))
-checked_told a c form answer given told = done_exactly Checking (λ m. IsTextOfAccepted m.evidence m.inputs m.bytes) form answer a c given (λ m end works done. done_holds m.evidence m.inputs m.bytes end works done) (λ m end holds works. holds_done m.evidence m.inputs m.bytes end holds works) told
+pub checked_told : (a c : View) (form : Option Form) (answer : Status) (given : Option Files)
+    → IfSome given (IsAnswered form a c answer)
+    → IfSome given (λ files. IsCheck form → IsOfOutside answer ⊎ IsDoneWhereHeld files form answer)
+checked_told a c form answer given told =
+    done_or Checking (λ m. IsTextOfAccepted m.evidence m.inputs m.bytes)
+    (λ m. IsTextOfCrowded m.evidence m.inputs m.bytes) form answer a c given
+    (λ m end works done. done_holds m.evidence m.inputs m.bytes end works done)
+    (λ m end holds works. holds_done m.evidence m.inputs m.bytes end holds works) told
 
-pub accepts_told : (a c : View) (form : Option Form) (answer : Status) (given : Option Files) → IfSome given (λ files. IsCalm a c → Completes form files answer) → IfSome given (λ files. IsCalm a c → HoldsAccepted files form → IsDoneOrShort answer)
-accepts_told a c form answer given told = settles Checking (λ m. IsTextOfAccepted m.evidence m.inputs m.bytes) form status.Done answer a c given (λ m end holds works. holds_done m.evidence m.inputs m.bytes end holds works) told
+pub accepts_told : (a c : View) (form : Option Form) (answer : Status) (given : Option Files)
+    → IfSome given (λ files. IsCalm a c → Completes form files answer)
+    → IfSome given (λ files. IsCalm a c → HoldsAccepted files form → IsDoneOrShort answer ⊎ HoldsCrowded files form)
+accepts_told a c form answer given told =
+    settles_or Checking (λ m. IsTextOfAccepted m.evidence m.inputs m.bytes)
+    (λ m. IsTextOfCrowded m.evidence m.inputs m.bytes) form status.Done answer a c given
+    (λ m end holds works. holds_done m.evidence m.inputs m.bytes end holds works) told

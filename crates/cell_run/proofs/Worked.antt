@@ -80,25 +80,80 @@ ends_told kind Is form settled answer a c (Some files) own each told = λ asks i
 abbrev pub Completes : Option Form → Files → Status → Type 0
 Completes form files answer = ((end : End) × CallsFor files form end × (answer ≡ end.status)) ⊎ (answer ≡ status.NoMemory)
 
--- how it ends where so it is of the material
-pub settles : (kind : Kind) (Is : MaterialOf kind → Type 0) (form : Option Form) (settled answer : Status) (a c : View) (given : Option Files) → ((m : MaterialOf kind) (end : End) → Is m → WorksTo kind m end → end.status ≡ settled) → IfSome given (λ files. IsCalm a c → Completes form files answer) → IfSome given (λ files. IsCalm a c → Gathers kind files form Is → IsOrShort settled answer)
-settles kind Is form settled answer a c None each told = tt
-settles kind Is form settled answer a c (Some files) each told = λ calm (m, got, is). elim (told calm) [
-  | inl (end, calls, same) ↦ inl (same ∙ each m end is (subst (λ (r : Result Material Refusal). EndsTo r end) got calls))
-  | inr short ↦ inr short
+-- how it ends where so it is of the material, except where something else is
+pub settles_or : (kind : Kind) (Is Else : MaterialOf kind → Type 0) (form : Option Form) (settled answer : Status)
+    (a c : View) (given : Option Files)
+    → ((m : MaterialOf kind) (end : End) → Is m → WorksTo kind m end → (end.status ≡ settled) ⊎ Else m)
+    → IfSome given (λ files. IsCalm a c → Completes form files answer)
+    → IfSome given (λ files. IsCalm a c → Gathers kind files form Is
+    → IsOrShort settled answer ⊎ Gathers kind files form Else)
+settles_or kind Is Else form settled answer a c None each told = tt
+settles_or kind Is Else form settled answer a c (Some files) each told = λ calm (m, got, is). elim (told calm) [
+  | inl (end, calls, same) ↦
+      by m got end same (each m end is (subst (λ (r : Result Material Refusal). EndsTo r end) got calls))
+  | inr short ↦ inl (inr short)
 ]
+  where
+    by : (m : MaterialOf kind) → called files (gathered form) ≡ Ok (kind, m) → (end : End) → answer ≡ end.status
+        → (end.status ≡ settled) ⊎ Else m → IsOrShort settled answer ⊎ Gathers kind files form Else
+    by m got end same (inl is) = inl (inl (same ∙ is))
+    by m got end same (inr other) = inr (m, got, other)
 
--- it is done exactly where so it is of the material
-pub done_exactly : (kind : Kind) (Is : MaterialOf kind → Type 0) (form : Option Form) (answer : Status) (a c : View) (given : Option Files) → ((m : MaterialOf kind) (end : End) → WorksTo kind m end → end.status ≡ status.Done → Is m) → ((m : MaterialOf kind) (end : End) → Is m → WorksTo kind m end → end.status ≡ status.Done) → IfSome given (IsAnswered form a c answer) → IfSome given (λ files. IsOfKind kind form → IsOfOutside answer ⊎ (answer ≡ status.Done ↔ Gathers kind files form Is))
-done_exactly kind Is form answer a c None only where_so told = tt
-done_exactly kind Is form answer a c (Some files) only where_so (inl outside) = λ asks. inl outside
-done_exactly kind Is form answer a c (Some files) only where_so (inr (end, calls, whole)) = λ asks. inr (
+-- it is done only where so it is of the material; and there it is, except where something else is
+pub done_or : (kind : Kind) (Is Else : MaterialOf kind → Type 0) (form : Option Form) (answer : Status) (a c : View)
+    (given : Option Files)
+    → ((m : MaterialOf kind) (end : End) → WorksTo kind m end → end.status ≡ status.Done → Is m)
+    → ((m : MaterialOf kind) (end : End) → Is m → WorksTo kind m end → (end.status ≡ status.Done) ⊎ Else m)
+    → IfSome given (IsAnswered form a c answer)
+    → IfSome given (λ files. IsOfKind kind form → IsOfOutside answer
+    ⊎ ((answer ≡ status.Done → Gathers kind files form Is)
+    × (Gathers kind files form Is → (answer ≡ status.Done) ⊎ Gathers kind files form Else)))
+done_or kind Is Else form answer a c None only where_so told = tt
+done_or kind Is Else form answer a c (Some files) only where_so (inl outside) = λ asks. inl outside
+done_or kind Is Else form answer a c (Some files) only where_so (inr (end, calls, whole)) = λ asks. inr (
   (λ done. by done (worked files form kind answer a c asks (rw done refl) (inr (end, calls, whole)))),
-  (λ (m, got, is). whole.0 ∙ where_so m end is (subst (λ (r : Result Material Refusal). EndsTo r end) got calls)),
+  (λ (m, got, is). ends m got (where_so m end is (subst (λ (r : Result Material Refusal). EndsTo r end) got calls))),
 )
   where
     by : answer ≡ status.Done → Works files form kind answer a c → Gathers kind files form Is
     by done w = (w.m, w.comes, only w.m w.end w.works (sym w.whole.0 ∙ done))
+
+    ends : (m : MaterialOf kind) → called files (gathered form) ≡ Ok (kind, m) → (end.status ≡ status.Done) ⊎ Else m
+        → (answer ≡ status.Done) ⊎ Gathers kind files form Else
+    ends m got (inl done) = inl (whole.0 ∙ done)
+    ends m got (inr other) = inr (m, got, other)
+
+-- where nothing else is
+surely : {A : Type 0} (kind : Kind) (files : Files) (form : Option Form) → A ⊎ Gathers kind files form (λ m. ⊥) → A
+surely kind files form (inl so) = so
+surely kind files form (inr (m, got, none)) = absurd none
+
+-- how it ends where so it is of the material
+pub settles : (kind : Kind) (Is : MaterialOf kind → Type 0) (form : Option Form) (settled answer : Status) (a c : View)
+    (given : Option Files)
+    → ((m : MaterialOf kind) (end : End) → Is m → WorksTo kind m end → end.status ≡ settled)
+    → IfSome given (λ files. IsCalm a c → Completes form files answer)
+    → IfSome given (λ files. IsCalm a c → Gathers kind files form Is → IsOrShort settled answer)
+settles kind Is form settled answer a c None each told = tt
+settles kind Is form settled answer a c (Some files) each told = λ calm gathers. surely kind files form
+    (settles_or kind Is (λ m. ⊥) form settled answer a c (Some files) (λ m end is works. inl (each m end is works))
+    told calm gathers)
+
+-- it is done exactly where so it is of the material
+pub done_exactly : (kind : Kind) (Is : MaterialOf kind → Type 0) (form : Option Form) (answer : Status) (a c : View)
+    (given : Option Files)
+    → ((m : MaterialOf kind) (end : End) → WorksTo kind m end → end.status ≡ status.Done → Is m)
+    → ((m : MaterialOf kind) (end : End) → Is m → WorksTo kind m end → end.status ≡ status.Done)
+    → IfSome given (IsAnswered form a c answer)
+    → IfSome given (λ files. IsOfKind kind form
+    → IsOfOutside answer ⊎ (answer ≡ status.Done ↔ Gathers kind files form Is))
+done_exactly kind Is form answer a c None only where_so told = tt
+done_exactly kind Is form answer a c (Some files) only where_so told = λ asks. elim
+    (done_or kind Is (λ m. ⊥) form answer a c (Some files) only (λ m end is works. inl (where_so m end is works))
+    told asks) [
+      | inl outside ↦ inl outside
+      | inr (holds, done) ↦ inr (holds, λ gathers. surely kind files form (done gathers))
+    ]
 
 -- ---- where a step may be refused besides
 

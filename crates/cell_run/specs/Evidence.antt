@@ -17,7 +17,7 @@ use Rattle.cell_inputs.specs.Inputs.{Inputs}
 use Rattle.cell_make.specs.Searched.{IsCertified, IsUnfinished}
 use Rattle.cell_report.specs.Rows.{plan_text}
 use Rattle.cell_commands.specs.Check.{IsTextOfAccepted as IsTextOfLog}
-use Rattle.cell_commands.specs.TrailCheck.{IsTextOfAccepted as IsTextOfTrails}
+use Rattle.cell_commands.specs.TrailCheck.{HoldsCrowded, IsTextOfAccepted as IsTextOfTrails}
 use Rattle.cell_commands.specs.Counts.{counts_text}
 use Rattle.cell_commands.specs.Searched.{IsOpenByTrails}
 
@@ -47,6 +47,11 @@ abbrev pub IsTextOfAccepted : Evidence → Inputs → List ℕ → Type 0
 IsTextOfAccepted Log inputs bytes = (gaps : ℕ) × (lemmas : ℕ) × IsTextOfLog inputs bytes gaps lemmas
 IsTextOfAccepted Trails inputs bytes =
     (gaps : ℕ) × (lemmas : ℕ) × (filled : ℕ) × IsTextOfTrails inputs bytes gaps lemmas filled
+
+-- the bytes are the text of one with a gate whose fingers pair in more ways than a checker lists; a log lists no ways
+abbrev pub IsTextOfCrowded : Evidence → Inputs → List ℕ → Type 0
+IsTextOfCrowded Log inputs bytes = ⊥
+IsTextOfCrowded Trails inputs bytes = HoldsCrowded inputs bytes
 
 -- the name of its file
 abbrev pub evidence_name : Evidence → List ℕ → List ℕ

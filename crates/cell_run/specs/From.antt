@@ -15,7 +15,7 @@ use Rattle.cell_inputs.specs.declared.style.Style.{Style}
 use Rattle.cell_inputs.specs.Inputs.{Inputs}
 use Rattle.cell_commands.specs.Given.{IsRefusedBy}
 use Rattle.cell_run.specs.Ended.{Gathers, IsOfKind, WhereEnds}
-use Rattle.cell_run.specs.Evidence.{Certificate, IsTextOfAccepted}
+use Rattle.cell_run.specs.Evidence.{Certificate, IsTextOfAccepted, IsTextOfCrowded}
 use Rattle.cell_run.specs.Headline.{IsCyclicCell, IsMadeCell, IsTallCell}
 use Rattle.cell_run.specs.Origin.{ListsIn, Origin, File}
 
@@ -69,10 +69,11 @@ pub record IsRefusedFile (m : FromMaterial) (old new : View) : Type 0 where
 abbrev pub FromFile : Files → Option Form → (FromMaterial → Type 0) → Type 0
 FromFile files form Says = Gathers MakingFrom files form Says
 
--- the file is accepted, and so it is of the row that it lists
+-- the file is accepted, no gate in it has too many ways to pair its fingers, and so it is of the row that it lists
 abbrev pub OfListed : (Style → Inputs → List Column → Type 0) → FromMaterial → Type 0
 OfListed Says m =
     IsTextOfAccepted m.evidence m.inputs m.bytes
+    × (IsTextOfCrowded m.evidence m.inputs m.bytes → ⊥)
     × ((row : List Column) (certificate : Certificate m.evidence)
     → ListsIn m.evidence m.inputs m.bytes row certificate → Says m.style m.inputs row)
 

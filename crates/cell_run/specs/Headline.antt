@@ -78,16 +78,16 @@ pub record IsMadeCell (origin : Origin) (style : Style) (inputs : Inputs) (out :
   pub routing : Routing
   pub lines : List ℕ
   -- Over all orders, flips and pairings with the fewest columns, no row has fewer gaps; and of those with as few
-  -- the one that a search finds comes first.
-  pub least : IsRowOf origin inputs.fingers row
-  -- The checker accepts the evidence, a log by the bound of its version, and the row that it lists is this one. Where a
-  -- file was given, its bytes are the text of the evidence.
+  -- the one that a search finds comes first. With `--low` no row that can be wired has fewer.
+  pub least : IsRowOf origin inputs row
+  -- The checker accepts the evidence, a log by the bound of its version, and the row that it lists is this one, or with
+  -- `--low` the first least one, which has fewer gaps. Where a file was given, its bytes are the text of the evidence.
   pub certified : CertifiesBy origin inputs row certificate
   -- No nets are above each other in a cycle; with doglegs no pieces of nets do.
   pub acyclic : HasNoRing style.wiring (placement_of row) inputs.cell.pins
   -- Each net that needs a trunk has one, or with doglegs its pieces; trunks of different nets on one track are apart.
-  -- Each is on the least track that is free for it, or with `--low` the row is the first least one on the fewest
-  -- tracks, and its routing the first on these.
+  -- Each is on the least track that is free for it, or with `--low` the row is the first one on the fewest tracks, and
+  -- its routing the first on these.
   pub legal : AreLegal style.wiring (placement_of row) inputs.cell.pins routing
   pub tracks : IsRoutedOf origin style inputs row routing
   -- The lines keep their distances, each of them as far left as any other such lines.
@@ -156,24 +156,23 @@ pub record IsCyclicCell (origin : Origin) (style : Style) (inputs : Inputs) (out
   pub row : List Column
   pub certificate : Certificate (kind_of_evidence origin)
   pub ring : Ring
-  pub least : IsRowOf origin inputs.fingers row
+  pub stops : IsStopOf origin inputs row
   pub certified : CertifiesBy origin inputs row certificate
   pub is_ring : IsRing style.wiring (placement_of row) inputs.cell.pins ring
   pub is_told : IsToldRing style.wiring (placement_of row) inputs.cell.pins ring
-  pub alone : IsStopOf origin inputs row
   pub files :
       Both (HasNoDrawing origin inputs.cell out (evidence_text (kind_of_evidence origin) inputs.cell.name certificate))
       old.made new.made
   pub says : Both (Says (first_line status.Cycle ++ ring_text inputs.cell.nets ring)) old.said new.said
 
--- The first least row, or the one that the given file lists, legally and tightly routed, needs more than the height of
--- the technology, and the report says both heights.
+-- The row of this origin, legally routed as it is to be drawn, needs more than the height of the technology, and the
+-- report says both heights.
 pub record IsTallCell (origin : Origin) (style : Style) (inputs : Inputs) (out : List ℕ)
     (old new : View) : Type 0 where
   pub row : List Column
   pub certificate : Certificate (kind_of_evidence origin)
   pub routing : Routing
-  pub least : IsRowOf origin inputs.fingers row
+  pub least : IsRowOf origin inputs row
   pub certified : CertifiesBy origin inputs row certificate
   pub acyclic : HasNoRing style.wiring (placement_of row) inputs.cell.pins
   pub legal : AreLegal style.wiring (placement_of row) inputs.cell.pins routing

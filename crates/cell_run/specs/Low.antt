@@ -3,7 +3,6 @@ use Rattle.std.specs.Prelude.{ℕ, ◌≡◌, ◌⊎◌, List, ◌++◌, Option,
 use Rattle.cell_io.specs.Desk.{Files, View, Both}
 use Rattle.cell_num.specs.Names.{lowered}
 use Rattle.row_model.specs.declared.column.Column.{Column}
-use Rattle.row_place.specs.Places.{placement_of}
 use Rattle.row_search.specs.First.{IsFirstLeast}
 use Rattle.channel_route.specs.declared.ring.Ring.{Ring}
 use Rattle.track_check.specs.declared.accept.TracksProved.{TracksProved}
@@ -19,8 +18,7 @@ use Rattle.call_work.specs.Commands.{CheckingLow, MakingLow}
 use Rattle.call_work.specs.declared.material.LowMaterial.{LowMaterial}
 use Rattle.cell_inputs.specs.declared.style.Style.{Style}
 use Rattle.cell_inputs.specs.Inputs.{Inputs}
-use Rattle.cell_make.specs.Low.{IsTrackSpent, low_style}
-use Rattle.cell_make.specs.Style.{IsRing, IsToldRing}
+use Rattle.cell_make.specs.Low.{IsRinged, IsWiredSpent, low_style}
 use Rattle.cell_report.specs.Cells.{fewest_text}
 use Rattle.cell_report.specs.Cycles.{ring_text}
 use Rattle.cell_report.specs.Logs.{low_checked_text}
@@ -48,12 +46,12 @@ abbrev pub IfLow : View → View → Option Form → Status → Status → (LowM
 IfLow old new form answer settled Says =
     IfSome old.given (λ files. WhereEnds MakingLow files form answer settled (λ m. IsAskedLow form m × Says m old new))
 
--- the lowest row is drawn, or where the search for it is open the first least row
+-- the lowest row is drawn, or where the search for it is open the first one that can be wired with the fewest gaps
 abbrev pub IsMadeLow : LowMaterial → View → View → Type 0
 IsMadeLow m old new =
     (tracks : TrackCertificate) × IsMadeCell (Low m.evidence tracks) (low_style m.taps) m.inputs m.stem old new
 
--- no least row has a legal routing, and a cycle of the first one was reported
+-- no row has a legal routing, and a cycle of the first least one was reported
 abbrev pub IsCyclicLow : LowMaterial → View → View → Type 0
 IsCyclicLow m old new =
     (tracks : TrackCertificate) × IsCyclicCell (Low m.evidence tracks) (low_style m.taps) m.inputs m.stem old new
@@ -63,10 +61,9 @@ abbrev pub IsTallLow : LowMaterial → View → View → Type 0
 IsTallLow m old new =
     (tracks : TrackCertificate) × IsTallCell (Low m.evidence tracks) (low_style m.taps) m.inputs m.stem old new
 
--- One of the two searches for the lowest row spent its budget, and nets of the first least row are above each other
--- in a cycle. The report says how many tracks each least row takes at least, and the cycle.
-pub record IsUnwiredCell (evidence : Evidence) (style : Style) (inputs : Inputs) (out : List ℕ)
-    (old new : View) : Type 0 where
+-- The search for a row that can be wired spent its budget, and nets of the first least row are above each other in a
+-- cycle. The report says that no tracks of any row are known, and the cycle.
+pub record IsUnwiredCell (evidence : Evidence) (inputs : Inputs) (out : List ℕ) (old new : View) : Type 0 where
   pub row : List Column
   pub certificate : Certificate evidence
   pub tracks : TrackCertificate
@@ -74,21 +71,20 @@ pub record IsUnwiredCell (evidence : Evidence) (style : Style) (inputs : Inputs)
   pub first : IsFirstLeast inputs.fingers row
   pub certified : Certifies evidence inputs row certificate
   pub fewest : CertifiesFewest inputs tracks
-  pub spent : IsTrackSpent inputs tracks
-  pub is_ring : IsRing style.wiring (placement_of row) inputs.cell.pins ring
-  pub is_told : IsToldRing style.wiring (placement_of row) inputs.cell.pins ring
+  pub spent : IsWiredSpent inputs tracks
+  pub ringed : IsRinged inputs row ring
   pub files :
       Both (HasNoDrawing (Low evidence tracks) inputs.cell out (evidence_text evidence inputs.cell.name certificate))
       old.made new.made
   pub says :
-      Both (Says (first_line status.Unfinished ++ fewest_text tracks.tracks ++ ring_text inputs.cell.nets ring))
+      Both (Says (first_line status.Unfinished ++ fewest_text 0 ++ ring_text inputs.cell.nets ring))
       old.said new.said
 
--- the search for the fewest gaps is as `make` without `--low` leaves it, or that for the lowest row is open
+-- the search for the fewest gaps is as `make` without `--low` leaves it, or that for a row that can be wired is open
 abbrev pub IsOpenLow : LowMaterial → View → View → Type 0
 IsOpenLow m old new =
     IsUnmade m.evidence m.inputs m.stem old new
-    ⊎ IsUnwiredCell m.evidence (low_style m.taps) m.inputs m.stem old new
+    ⊎ IsUnwiredCell m.evidence m.inputs m.stem old new
 
 -- ---- how it has to end
 

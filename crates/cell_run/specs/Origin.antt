@@ -1,9 +1,9 @@
--- Where a row comes from: a search, a given file, or the search for the lowest of the rows with the fewest gaps. What
--- is known of the row, of its evidence and of the files by that.
-use Rattle.std.specs.Prelude.{ℕ, ◌≡◌, ◌≢◌, ◌≤◌, List, [], ◌∷◌, ◌++◌, codes, All, Some}
+-- Where a row comes from: a search, a given file, or the search for the lowest of the rows that can be wired with the
+-- fewest gaps. What is known of the row, of its evidence and of the files by that.
+use Rattle.std.specs.Prelude.{ℕ, ◌≡◌, ◌≢◌, ◌≤◌, ◌<◌, ◌⊎◌, List, [], ◌∷◌, ◌++◌, codes, All, Some}
 use Rattle.cell_io.specs.Desk.{Files}
-use Rattle.cell_num.specs.declared.finger.Fingers.{Fingers}
 use Rattle.row_model.specs.declared.column.Column.{Column}
+use Rattle.row_model.specs.Gaps.{gaps_of}
 use Rattle.row_search.specs.First.{IsFirstLeast}
 use Rattle.row_place.specs.Places.{placement_of}
 use Rattle.channel_route.specs.declared.routing.Routing.{Routing}
@@ -13,7 +13,7 @@ use Rattle.call_words.specs.declared.evidence.Evidence.{Evidence}
 use Rattle.call_words.specs.declared.evidence.Evidence.TheVariants.{Log, Trails}
 use Rattle.cell_inputs.specs.declared.style.Style.{Style}
 use Rattle.cell_inputs.specs.Inputs.{Inputs}
-use Rattle.cell_make.specs.Low.{IsLeast, IsLowRouted, ProvesNoneIsWired, ProvesTracks}
+use Rattle.cell_make.specs.Low.{IsLeast, IsLeastWired, IsLowRouted, ProvesNoneIsWired, ProvesTracks}
 use Rattle.cell_make.specs.Style.{AreTight}
 use Rattle.cell_report.specs.Cells.{fewest_text}
 use Rattle.cell_commands.specs.Check as log
@@ -34,34 +34,56 @@ kind_of_evidence (Search evidence) = evidence
 kind_of_evidence (File evidence bytes) = evidence
 kind_of_evidence (Low evidence tracks) = evidence
 
--- of a search the first least row of the fingers, of a file and of the search for the lowest row a least one
-abbrev pub IsRowOf : Origin → Fingers → List Column → Type 0
-IsRowOf (Search evidence) f row = IsFirstLeast f row
-IsRowOf (File evidence bytes) f row = IsLeast f row
-IsRowOf (Low evidence tracks) f row = IsLeast f row
+-- The row whose channel is routed: of a search the first least row of the fingers, of a file a least one, of the search
+-- for the lowest row one that can be wired, than which no other that can has fewer gaps.
+abbrev pub IsRowOf : Origin → Inputs → List Column → Type 0
+IsRowOf (Search evidence) inputs row = IsFirstLeast inputs.fingers row
+IsRowOf (File evidence bytes) inputs row = IsLeast inputs.fingers row
+IsRowOf (Low evidence tracks) inputs row = IsLeastWired inputs row
+
+-- The row whose nets are above each other in a cycle: that of the search or of the file; of the search for the lowest
+-- row the first least one, and no row can be wired, which its certificate of the fewest tracks proves.
+abbrev pub IsStopOf : Origin → Inputs → List Column → Type 0
+IsStopOf (Search evidence) inputs row = IsFirstLeast inputs.fingers row
+IsStopOf (File evidence bytes) inputs row = IsLeast inputs.fingers row
+IsStopOf (Low evidence tracks) inputs row = IsFirstLeast inputs.fingers row × ProvesNoneIsWired inputs tracks
 
 -- the bytes are the text of the certificate, which its checker accepts with the gaps of the row and which lists it
 abbrev pub ListsIn : (evidence : Evidence) → Inputs → List ℕ → List Column → Certificate evidence → Type 0
 ListsIn Log inputs bytes row found = log.IsListed inputs bytes row found
 ListsIn Trails inputs bytes row found = trail.IsListed inputs bytes row found
 
--- the certificate proves how many tracks each least row takes at least; where there is a file of it, `check .. --low`
--- accepts that
+-- The row has more gaps than the first least one, and it certifies that one: no row has fewer gaps than that.
+pub record CertifiesLeast
+    (evidence : Evidence) (inputs : Inputs) (row : List Column) (certificate : Certificate evidence) : Type 0 where
+  pub least : List Column
+  pub first : IsFirstLeast inputs.fingers least
+  pub more : gaps_of least < gaps_of row
+  pub certified : Certifies evidence inputs least certificate
+
+-- It certifies the row of the search for the lowest one; or where no least row can be wired, the first least one.
+abbrev pub CertifiesLow :
+    (evidence : Evidence) → Inputs → List Column → Certificate evidence → Type 0
+CertifiesLow evidence inputs row certificate =
+    Certifies evidence inputs row certificate ⊎ CertifiesLeast evidence inputs row certificate
+
+-- The certificate proves how many tracks each row takes at least, within its gaps. Where there is a file of it, `check
+-- .. --low` accepts that.
 pub record CertifiesFewest (inputs : Inputs) (tracks : TrackCertificate) : Type 0 where
   pub proves : ProvesTracks inputs tracks
   pub accepted : 1 ≤ tracks.tracks → IsAcceptedTracks inputs tracks
 
 -- of a search its own certificate, of a file the one whose text its bytes are; either is accepted and lists the row. Of
--- the search for the lowest row there are two: that of the row, and that of the fewest tracks.
+-- the search for the lowest row there are two: that of the fewest gaps, and that of the fewest tracks.
 abbrev pub CertifiesBy : (origin : Origin) → Inputs → List Column → Certificate (kind_of_evidence origin) → Type 0
 CertifiesBy (Search evidence) inputs row certificate = Certifies evidence inputs row certificate
 CertifiesBy (File evidence bytes) inputs row certificate = ListsIn evidence inputs bytes row certificate
 CertifiesBy (Low evidence tracks) inputs row certificate =
-    Certifies evidence inputs row certificate × CertifiesFewest inputs tracks
+    CertifiesLow evidence inputs row certificate × CertifiesFewest inputs tracks
 
--- Each trunk is on the least track that is free for it. Of the search for the lowest row: it is the first least row
--- on the fewest tracks, with the first of its routings on these; or that search is open, and it is the first least row
--- with its trunks on the least tracks.
+-- Each trunk is on the least track that is free for it. Of the search for the lowest row: it is the first row on the
+-- fewest tracks, with the first of its routings on these; or that search is open, and it is the first row that can be
+-- wired with the fewest gaps, with its trunks on the least tracks.
 abbrev pub IsRoutedOf : Origin → Style → Inputs → List Column → Routing → Type 0
 IsRoutedOf (Search evidence) style inputs row routing =
     AreTight style.wiring (placement_of row) inputs.cell.pins routing
@@ -69,14 +91,8 @@ IsRoutedOf (File evidence bytes) style inputs row routing =
     AreTight style.wiring (placement_of row) inputs.cell.pins routing
 IsRoutedOf (Low evidence tracks) style inputs row routing = IsLowRouted style inputs row tracks routing
 
--- where nets of the row are above each other in a cycle: of the search for the lowest row it is the first least one,
--- and no least row has a legal routing, which its certificate of the fewest tracks proves
-abbrev pub IsStopOf : Origin → Inputs → List Column → Type 0
-IsStopOf (Search evidence) inputs row = Unit {0}
-IsStopOf (File evidence bytes) inputs row = Unit {0}
-IsStopOf (Low evidence tracks) inputs row = IsFirstLeast inputs.fingers row × ProvesNoneIsWired inputs tracks
-
--- what the report says of the fewest tracks: of the search for the lowest row how many each least row takes at least
+-- what the report says of the fewest tracks: of the search for the lowest row how many each row takes at least that has
+-- no more gaps
 abbrev pub fewest_of : Origin → List ℕ
 fewest_of (Search evidence) = []
 fewest_of (File evidence bytes) = []

@@ -65,8 +65,8 @@ pub record IsRowedLibrary (r : RowInputs) (out : List ℕ) (old new : View) : Ty
       old.said new.said
 
 -- The first cell that is not made has no drawing: a cycle of nets, a height that is not enough, or a search that spent
--- its budget, whose log is reported; or with `--low` a cycle of its first least row, where the search for the lowest
--- one spent its budget. No file is made.
+-- its budget, whose log is reported; or with `--low` a cycle of its first least row, where the search for a row that
+-- can be wired spent its budget. No file is made.
 pub record IsStoppedRow (r : RowInputs) (answer : Status) (old new : View) : Type 0 where
   pub before : List MadeCell
   pub inputs : Inputs

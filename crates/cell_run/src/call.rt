@@ -7,7 +7,7 @@ ghost use Rattle.cell_run.specs.Agree.{ComparesMade, HasDisagreement, HasNoNets,
 ghost use Rattle.cell_run.specs.Agree.{IsWithoutNets, OfCompared};
 ghost use Rattle.cell_run.specs.Bench.{IsBench, IsBenchTold, WhereBenchEnds};
 ghost use Rattle.cell_run.specs.Calm.{EndsSo, IfCalm, IsDoneOrShort};
-ghost use Rattle.cell_run.specs.Check.{HoldsAccepted, IsCheck};
+ghost use Rattle.cell_run.specs.Check.{HoldsAccepted, HoldsCrowded, IsCheck, IsDoneWhereHeld};
 ghost use Rattle.cell_run.specs.Created.{CreatesOnce};
 ghost use Rattle.call_end.specs.Deliver.{Tells, TellsWhole};
 ghost use Rattle.call_work.specs.Ends.{CallsFor, IsOfOutside, MayEnd, is_status_of};
@@ -43,9 +43,9 @@ use std::alloc::Global;
 /// makes the log `OUT.clog`, the GDSII library `OUT.gds` and then the abstract `OUT.lef`. With `--dogleg` after OUT,
 /// trunks may change their tracks at node lines of their nets; with `--taps` as the last word the library has taps of
 /// the well and of the substrate, on the rails at the first and at the last line.
-/// With `--low` after OUT or `--taps`, `make` draws the first least row on the fewest tracks, with the first of its
-/// routings on these, and makes the certificate of the tracks, `OUT.ctrack`, after the log. Where the budget is spent
-/// before that row is found, it draws the first least row.
+/// With `--low` after OUT or `--taps`, `make` draws of all rows that can be wired with the fewest gaps the first on the
+/// fewest tracks, with the first of its routings on these. It makes the certificate of the tracks, `OUT.ctrack`, after
+/// the log. Where the budget is spent before that row is found, it draws the first that can be wired with these gaps.
 /// `check TECH SPICE CELL LOG` reports whether the file LOG is the text of a log that certifies a row of that cell.
 /// With `--low` after the file's name it reports the gaps and the tracks of a certificate of tracks.
 /// `extract TECH GDS CELL` reports the netlist of a cell of the GDSII file GDS, or the rules that it breaks. With
@@ -106,9 +106,8 @@ pub fn run<D: Desk>(alloc: Global, words: &[String], desk: &mut D) -> Status
     // No file is created twice, whatever the end is. (That they are those of the end, in order, is said by `ends`.)
     ensures once { Both CreatesOnce (D.view desk.old).created (D.view desk.new).created }
 
-    // What `make` leaves: the drawing of the first least row, with its evidence; or a cycle of that row; or the
-    // height that it needs; or the evidence of what a search proves that spent its budget, or a gate with too many ways
-    // to pair its fingers.
+    // What `make` leaves: the drawing of the first least row, with its evidence; or a cycle of that row; or the height
+    // that it needs; or what a search proves that spent its budget, or a gate with too many ways to pair its fingers.
     ensures drawn { IfSome (D.view desk.old).given (λ files. WhereMakeEnds files (asked words.now) result status.Done
         (λ e style inputs out. IsMadeCell (Search e) style inputs out (D.view desk.old) (D.view desk.new))) }
     ensures cyclic { IfSome (D.view desk.old).given (λ files. WhereMakeEnds files (asked words.now) result status.Cycle
@@ -126,9 +125,8 @@ pub fn run<D: Desk>(alloc: Global, words: &[String], desk: &mut D) -> Status
     ensures needs { IfCalm (D.view desk.old) (D.view desk.new) (λ files.
         FromInputs files (asked words.now) (OfFirstLeast IsTooHigh) → IsOrShort status.TooTall result) }
 
-    // What `make` with `--from FILE` leaves: the drawing of the row that FILE lists, than which no row has fewer
-    // gaps; or a cycle of that row; or the height that it needs; or what a check of FILE reports that does not accept
-    // it.
+    // What `make` with `--from FILE` leaves: the drawing of the row that FILE lists, than which no row has fewer gaps;
+    // or a cycle of that row; or the height that it needs; or the report of a check that does not accept FILE.
     ensures drawn_from { IfFrom (D.view desk.old) (D.view desk.new) (asked words.now) result status.Done IsMadeFrom }
     ensures cyclic_from { IfFrom (D.view desk.old) (D.view desk.new) (asked words.now) result status.Cycle
         IsCyclicFrom }
@@ -146,9 +144,9 @@ pub fn run<D: Desk>(alloc: Global, words: &[String], desk: &mut D) -> Status
     ensures rejects_from { IfCalm (D.view desk.old) (D.view desk.new) (λ files.
         FromFile files (asked words.now) IsUnaccepted → IsOrShort status.Rejected result) }
 
-    // What `make` with `--low` leaves: the drawing of the first least row on the fewest tracks, with both certificates;
-    // or a cycle; or the height that the row needs; or what a search proves that spent its budget. It draws each cell
-    // that `make` draws where the budget is enough, or memory ran out.
+    // What `make` with `--low` leaves: the drawing of the first row on the fewest tracks, with both certificates; or a
+    // cycle, where no row can be wired; or the height that the row needs; or what a search proves that spent its
+    // budget. It draws each cell that `make` draws where the budget is enough, or memory ran out.
     ensures drawn_low { IfLow (D.view desk.old) (D.view desk.new) (asked words.now) result status.Done IsMadeLow }
     ensures cyclic_low { IfLow (D.view desk.old) (D.view desk.new) (asked words.now) result status.Cycle IsCyclicLow }
     ensures tall_low { IfLow (D.view desk.old) (D.view desk.new) (asked words.now) result status.TooTall IsTallLow }
@@ -169,11 +167,13 @@ pub fn run<D: Desk>(alloc: Global, words: &[String], desk: &mut D) -> Status
     // A plan whose budget is enough is done, or memory ran out.
     ensures plans { EndsSo (D.view desk.old) (D.view desk.new) (asked words.now) result status.Done CanBePlanned }
 
-    // A check is done exactly where the file is the text of accepted evidence, except ReadFault, WriteFault and
-    // NoMemory; and where neither reading nor writing failed it is done there, or memory ran out.
+    // A check is done only where the file is the text of accepted evidence. There it is done, except ReadFault,
+    // WriteFault and NoMemory, and except where a gate of a certificate has too many ways to pair its fingers; and
+    // where neither reading nor writing failed, it is done there, or memory ran out, or a gate has too many ways.
     ensures checked { IfSome (D.view desk.old).given (λ files. IsCheck (asked words.now)
-        → IsOfOutside result ⊎ (result ≡ status.Done ↔ HoldsAccepted files (asked words.now))) }
-    ensures accepts { EndsSo (D.view desk.old) (D.view desk.new) (asked words.now) result status.Done HoldsAccepted }
+        → IsOfOutside result ⊎ IsDoneWhereHeld files (asked words.now) result) }
+    ensures accepts { IfCalm (D.view desk.old) (D.view desk.new) (λ files. HoldsAccepted files (asked words.now)
+        → IsDoneOrShort result ⊎ HoldsCrowded files (asked words.now)) }
 
     // So is a check with `--low`, where the file is the text of an accepted certificate of tracks. Then each row with
     // at most its gaps takes its tracks at least.

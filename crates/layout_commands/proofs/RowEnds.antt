@@ -70,7 +70,7 @@ pub can_be_told : (choice : LeastRow) (inputs : Inputs) (told : Undrawn) (answer
 can_be_told choice inputs (why.Cyclic ring) answer stops is = tt
 can_be_told choice inputs (why.Tall needed given) answer stops is = tt
 can_be_told choice inputs (why.Unfinished log proved) answer stops is = spent_fits inputs.fingers inputs.tech.budget proved log (spent_by choice inputs proved log (subst (StopsBy choice inputs) is stops)).1
-can_be_told choice inputs (why.Unwired ring fewest) answer stops is = tt
+can_be_told choice inputs (why.Unwired ring) answer stops is = tt
 
 pub cyclic_stops : (inputs inside : Inputs) (ring : Ring) (got : Result End NoMemory) (answer : StopAnswer) → inside ≡ inputs → IfOk got (λ end. end ≡ reports status.Cycle (ring_text inside.cell.nets ring)) → TellsWhy inputs (why.Cyclic ring) answer → IfOk got (IsStoppedEnd inputs answer)
 cyclic_stops inputs inside ring (Err e) answer same ends told = tt
@@ -84,6 +84,6 @@ pub spent_stops : (inputs inside : Inputs) (proved : ℕ) (log : Log) (got : Res
 spent_stops inputs inside proved log (Err e) answer same ends told = tt
 spent_stops inputs inside proved log (Ok end) answer same ends is = rw is (subst (λ (i : Inputs). end ≡ unfinished_end i.cell proved log) same ends)
 
-pub unwired_stops : (inputs inside : Inputs) (ring : Ring) (fewest : ℕ) (got : Result End NoMemory) (answer : StopAnswer) → inside ≡ inputs → IfOk got (λ end. end ≡ reports status.Unfinished (fewest_text fewest ++ ring_text inside.cell.nets ring)) → TellsWhy inputs (why.Unwired ring fewest) answer → IfOk got (IsStoppedEnd inputs answer)
-unwired_stops inputs inside ring fewest (Err e) answer same ends told = tt
-unwired_stops inputs inside ring fewest (Ok end) answer same ends (row, log, tracks, is, few) = rw (is, sym few) (subst (λ (i : Inputs). end ≡ reports status.Unfinished (fewest_text fewest ++ ring_text i.cell.nets ring)) same ends)
+pub unwired_stops : (inputs inside : Inputs) (ring : Ring) (got : Result End NoMemory) (answer : StopAnswer) → inside ≡ inputs → IfOk got (λ end. end ≡ reports status.Unfinished (fewest_text 0 ++ ring_text inside.cell.nets ring)) → TellsWhy inputs (why.Unwired ring) answer → IfOk got (IsStoppedEnd inputs answer)
+unwired_stops inputs inside ring (Err e) answer same ends told = tt
+unwired_stops inputs inside ring (Ok end) answer same ends (row, log, tracks, is) = rw is (subst (λ (i : Inputs). end ≡ reports status.Unfinished (fewest_text 0 ++ ring_text i.cell.nets ring)) same ends)

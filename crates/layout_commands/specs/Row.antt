@@ -59,7 +59,7 @@ IsStoppedEnd inputs (Tall row log routing) end =
     end ≡ reports status.TooTall (tall_text (needed_of row routing.tracks) inputs.tech.height)
 IsStoppedEnd inputs (Unfinished proved log) end = end ≡ unfinished_end inputs.cell proved log
 IsStoppedEnd inputs (Unwired row log tracks ring) end =
-    end ≡ reports status.Unfinished (fewest_text tracks.tracks ++ ring_text inputs.cell.nets ring)
+    end ≡ reports status.Unfinished (fewest_text 0 ++ ring_text inputs.cell.nets ring)
 
 -- the library is the one file of a row
 abbrev pub IsRowEnd : RowInputs → List ℕ → RowAnswer → End → Type 0
@@ -78,4 +78,4 @@ abbrev pub CanBeTold : Undrawn → Type 0
 CanBeTold (why.Cyclic ring) = Unit {0}
 CanBeTold (why.Tall needed given) = Unit {0}
 CanBeTold (why.Unfinished log proved) = ForSome (λ k. Fits k log)
-CanBeTold (why.Unwired ring fewest) = Unit {0}
+CanBeTold (why.Unwired ring) = Unit {0}

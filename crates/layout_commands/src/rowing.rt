@@ -93,11 +93,12 @@ fn tall(alloc: Global, needed: u32, given: u32) -> Result<End, NoMemory>
     Ok(End::says(alloc, Status::TooTall, report))
 }
 
-fn unwired(alloc: Global, cell: &Subckt, fewest: u32, ring: &Ring) -> Result<End, NoMemory>
+// No row that can be wired is known, so no row is known to take any tracks.
+fn unwired(alloc: Global, cell: &Subckt, ring: &Ring) -> Result<End, NoMemory>
     ensures { IfOk result (λ end. end
-        ≡ reports status.Unfinished (fewest_text fewest ++ ring_text cell.now.nets ring.now)) }
+        ≡ reports status.Unfinished (fewest_text 0 ++ ring_text cell.now.nets ring.now)) }
 {
-    let report = open_ring_report(alloc, &cell.nets, fewest, ring)?;
+    let report = open_ring_report(alloc, &cell.nets, 0, ring)?;
     Ok(End::says(alloc, Status::Unfinished, report))
 }
 
@@ -112,7 +113,7 @@ fn stopped(alloc: Global, inputs: &Inputs, why: Undrawn) -> Result<End, NoMemory
         Undrawn::Cyclic { ring } => cyclic(alloc, &inputs.cell, &ring),
         Undrawn::Tall { needed, given } => tall(alloc, needed, given),
         Undrawn::Unfinished { log, proved } => log_unfinished(alloc, &inputs.cell, log, proved),
-        Undrawn::Unwired { ring, fewest } => unwired(alloc, &inputs.cell, fewest, &ring),
+        Undrawn::Unwired { ring } => unwired(alloc, &inputs.cell, &ring),
     }
 }
 

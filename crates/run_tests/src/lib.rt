@@ -24,6 +24,8 @@ mod doglegs;
 #[cfg(test)]
 mod extract;
 #[cfg(test)]
+mod gap_rows;
+#[cfg(test)]
 mod given_rows;
 #[cfg(test)]
 mod logs;

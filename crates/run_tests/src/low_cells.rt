@@ -1,4 +1,4 @@
-// Rows of cells that are made from the lowest of their least rows. The size of each cell is the one that `make` with
+// Rows of cells that are made from their lowest rows. The size of each cell is the one that `make` with
 // `--low` reports, which another program, written after the definitions, found too.
 use crate::calls::{End, Left, Said, ends};
 use crate::low_rows::{MUX, RING};
@@ -46,7 +46,7 @@ const CASES: [(&str, &str, Status, &str, bool); 9] = [
         "status 0 ok\ncell top\ncells 3\nsize 290 196\n",
         true,
     ),
-    // No least row is wired.
+    // No row is wired.
     (
         "",
         "row - c.sp out top ring none --low",

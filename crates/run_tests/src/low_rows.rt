@@ -1,5 +1,5 @@
-// Cells that are made from the lowest of their least rows. Another program, written after the definitions, listed the
-// rows in order, the fewest tracks of each, and the size.
+// Cells that are made from their lowest row, which is a least one. Another program, written after the definitions,
+// listed the rows in order, the fewest tracks of each, and the size.
 use crate::calls::{End, Left, Said, ends};
 use crate::make::CROSS;
 use crate::setup::{INVERTER, inputs};

@@ -157,10 +157,10 @@ fn is_accepted(
     ends(alloc, words, &given, &[], &end)
 }
 
-// Whether the evidence that a call leaves is accepted by another one.
-fn is_checked(
+/// Whether the evidence that a call leaves is accepted by another one.
+pub fn is_checked(
     alloc: Global,
-    spice: &str,
+    [tech, spice]: [&str; 2],
     [make, name, check, said]: [&str; 4],
     status: Status,
 ) -> Result<bool, Fail> {
@@ -169,7 +169,7 @@ fn is_checked(
         said: Said::First("status "),
         files: &[],
     };
-    let evidence = made_file(alloc, make, &inputs(["", spice, ""]), &[], &end, name)?;
+    let evidence = made_file(alloc, make, &inputs([tech, spice, ""]), &[], &end, name)?;
     let is = is_accepted(alloc, spice, &evidence, check, said);
     drop(evidence);
     is
@@ -179,7 +179,7 @@ fn is_checked(
 fn makes_accepted_certificates(rt: HostRuntime) -> Result<(), Fail> {
     for (spice, make, status, name, check, said) in &CHECKED {
         assert!(rt;
-            is_checked(rt.alloc(), spice, [make, name, check, said], *status)?,
+            is_checked(rt.alloc(), ["", spice], [make, name, check, said], *status)?,
             "{check}"
         );
     }

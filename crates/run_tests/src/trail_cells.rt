@@ -135,6 +135,15 @@ const CROWDED: End = End {
     ],
 };
 
+// A check looks at such a gate before the lemmas and the row.
+const CROWDED_TRAILS: &str = "cellgen-trails 1\ncell many\nfill -\norder 0\nopen\nend\n";
+
+const REFUSED: End = End {
+    status: Status::Rejected,
+    said: Said::Whole(&["status 7 rejected\ntrails Choices gate g\n"]),
+    files: &[],
+};
+
 // A gate of seven different fingers over seven: after its fifth column 7! / 2! * 2^5 = 80,640 ways to pair them.
 fn put_crowded(alloc: Global, text: &mut String) -> Result<(), Fail> {
     text.push_str(".SUBCKT many g vdd gnd\n")?;
@@ -147,11 +156,12 @@ fn put_crowded(alloc: Global, text: &mut String) -> Result<(), Fail> {
     Ok(text.push_str(".ENDS\n")?)
 }
 
-fn is_crowded(alloc: Global) -> Result<bool, Fail> {
+// Whether a call over that cell ends so.
+fn is_crowded(alloc: Global, words: &str, end: &End) -> Result<bool, Fail> {
     let mut spice = String::new(alloc);
     put_crowded(alloc, &mut spice)?;
-    let words = "make - c.sp many out --trails";
-    let is = ends(alloc, words, &inputs(["", &spice, ""]), &[], &CROWDED);
+    let given = inputs(["", &spice, CROWDED_TRAILS]);
+    let is = ends(alloc, words, &given, &[], end);
     drop(spice);
     is
 }
@@ -164,6 +174,19 @@ fn makes_the_certificate_alone(rt: HostRuntime) -> Result<(), Fail> {
             "{said}"
         );
     }
-    assert!(rt; is_crowded(rt.alloc())?);
+    Ok(())
+}
+
+#[test]
+fn makes_nothing_of_a_crowded_gate(rt: HostRuntime) -> Result<(), Fail> {
+    let words = "make - c.sp many out --trails";
+    assert!(rt; is_crowded(rt.alloc(), words, &CROWDED)?);
+    Ok(())
+}
+
+#[test]
+fn checks_up_to_a_crowded_gate(rt: HostRuntime) -> Result<(), Fail> {
+    let words = "check - c.sp many l.clog --trails";
+    assert!(rt; is_crowded(rt.alloc(), words, &REFUSED)?);
     Ok(())
 }

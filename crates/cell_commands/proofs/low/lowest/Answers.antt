@@ -3,26 +3,24 @@ use Rattle.row_model.specs.declared.column.Column.{Column}
 use Rattle.row_place.specs.declared.placement.Placement.{Placement}
 use Rattle.row_place.specs.Places.{placement_of}
 use Rattle.channel_route.specs.Routing.{IsLegal}
-use Rattle.cell_inputs.specs.Inputs.{Inputs, inputs_of}
+use Rattle.cell_inputs.specs.Inputs.{inputs_of}
 use Rattle.cell_make.specs.Low.{low_style}
 use Rattle.cell_make.specs.Rows.{IsRowDrawnBy, placement_in}
 use Rattle.cell_commands.specs.Evidence.{shown}
 use Rattle.cell_commands.specs.Relisted.{kind_of}
 use Rattle.cell_commands.proofs.Ended.{short_row}
 use Rattle.cell_commands.proofs.Named.{inside_named}
-use Rattle.cell_commands.proofs.Lows.{certified_fits, evidence_of, found_there, lowest_made, relisted_for}
+use Rattle.cell_commands.proofs.Lows.{evidence_of, found_there, low_fits, lowest_made}
 use Rattle.cell_commands.proofs.low.lowest.Goals as goal
 
-pub relisted-requires : goal.relisted-requires
-relisted-requires c = record { arranged = c.requires.lowest.least.arranges }
+pub beside-requires-clause-arranged : goal.beside-requires-clause-arranged
+beside-requires-clause-arranged c = c.requires.lowest.least.arranges
 
 pub low_evidence-requires-clause-name : goal.low_evidence-requires-clause-name
 low_evidence-requires-clause-name c = inside_named c.args.inputs.now (inputs_of c.inputs.inside.tech c.inputs.inside.cell c.inputs.inside.fingers) c.inputs.view_is c.show_limits.ensures
 
 pub low_evidence-requires-clause-fits : goal.low_evidence-requires-clause-fits
-low_evidence-requires-clause-fits c =
-    certified_fits (kind_of c.args.certificate) c.args.inputs.now c.args.placement.row c.in_ok-listing.listing
-    (relisted_for c.args.inputs.now c.args.placement.row c.args.certificate c.in_ok-listing.listing c.requires.found c.requires.lowest.least c.in_ok-listing.ensures)
+low_evidence-requires-clause-fits c = low_fits (kind_of c.args.gaps) c.args.inputs.now c.args.placement.row c.in_ok-listing.listing c.in_ok-listing.ensures
 
 pub lowest-requires-clause-arranged : goal.lowest-requires-clause-arranged
 lowest-requires-clause-arranged c = c.requires.lowest.least.arranges
@@ -47,10 +45,9 @@ row_end-end-requires-clause-exact c =
 pub returns : goal.returns
 returns c =
     let same : c.row_of.result.now ≡ c.args.placement.row = drawn_row c.args.placement (placement_in c.in_ok-came.came) c.row_of.result.now c.row_of.ensures c.in_ok-came.ensures.comes.placed in
-    lowest_made (kind_of c.args.certificate) c.args.taps c.args.inputs.now c.args.stem.now c.args.placement.row c.row_of.result.now c.in_ok-listing.listing c.args.tracks.now c.args.routing c.in_ok-came.came (shown c.in_ok-evidence.evidence) c.row_end-end.result
+    lowest_made (kind_of c.args.gaps) c.args.taps c.args.inputs.now c.args.stem.now c.args.placement.row c.row_of.result.now c.in_ok-listing.listing c.args.tracks.now c.args.routing c.in_ok-came.came (shown c.in_ok-evidence.evidence) c.row_end-end.result
     same
     (evidence_of (inputs_of c.inputs.inside.tech c.inputs.inside.cell c.inputs.inside.fingers) c.args.inputs.now c.args.stem.now c.in_ok-listing.listing c.args.tracks.now (shown c.in_ok-evidence.evidence) c.inputs.view_is c.in_ok-evidence.ensures)
-    c.requires.proves
-    (relisted_for c.args.inputs.now c.args.placement.row c.args.certificate c.in_ok-listing.listing c.requires.found c.requires.lowest.least c.in_ok-listing.ensures)
-    (found_there c.args.inputs.now c.args.certificate c.show_limits.ensures c.requires.found)
+    c.requires.proves c.in_ok-listing.ensures
+    (found_there c.args.inputs.now c.args.least.now c.args.gaps c.show_limits.ensures c.requires.found)
     c.requires.lowest c.in_ok-came.ensures.wired c.in_ok-came.ensures.comes c.row_end-end.ensures

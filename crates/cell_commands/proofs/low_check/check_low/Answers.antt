@@ -1,7 +1,6 @@
 use Rattle.std.proofs.Common.{◌≢◌, rules}
 use Rattle.track_check.specs.declared.rejected.TextRejected.TheVariants as because
 use Rattle.cell_inputs.specs.Inputs.{inputs_of}
-use Rattle.cell_inputs.proofs.Names.{log_name}
 use Rattle.cell_commands.proofs.LowChecked.{accepted_checks, rejected_checks}
 use Rattle.cell_commands.proofs.low_check.check_low.Goals as goal
 

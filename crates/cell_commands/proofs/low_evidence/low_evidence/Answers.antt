@@ -1,6 +1,5 @@
-use Rattle.std.proofs.Common.{◌≡◌, ◌++◌, rules}
+use Rattle.std.proofs.Common.{◌≡◌, rules}
 use Rattle.cell_report.specs.Cells.{fewest_text}
-use Rattle.cell_commands.specs.Certificate.{row_evidence}
 use Rattle.cell_commands.proofs.Lows.{evidence_shown}
 use Rattle.cell_commands.proofs.low_evidence.low_evidence.Goals as goal
 

@@ -26,5 +26,5 @@ returns-in-Unfinished c = λ answer told.
 
 pub returns-in-Unwired : goal.returns-in-Unwired
 returns-in-Unwired c = λ answer told.
-    unwired_stops c.args.inputs.now (inputs_of c.inputs.inside.tech c.inputs.inside.cell c.inputs.inside.fingers) c.in-Unwired.ring c.in-Unwired.fewest c.unwired.result answer c.inputs.view_is c.unwired.ensures
+    unwired_stops c.args.inputs.now (inputs_of c.inputs.inside.tech c.inputs.inside.cell c.inputs.inside.fingers) c.in-Unwired.ring c.unwired.result answer c.inputs.view_is c.unwired.ensures
     (subst (λ (w : Undrawn). TellsWhy c.args.inputs.now w answer) c.in-Unwired.is told)

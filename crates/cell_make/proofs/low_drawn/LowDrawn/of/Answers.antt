@@ -1,7 +1,8 @@
-use Rattle.std.proofs.Common.{◌≡◌, subst, sym}
+use Rattle.std.proofs.Common.{◌≡◌, arith, subst, sym}
 use Rattle.channel_route.specs.Routing.{IsLegal}
-use Rattle.cell_make.proofs.LowCell.{first_least, first_low, lowest_low}
 use Rattle.cell_inputs.specs.declared.style.Style.{Style}
+use Rattle.cell_make.proofs.LowCell.{first_least, lowest_low, open_low, ring_low}
+use Rattle.cell_make.proofs.Makes.{few_columns}
 use Rattle.cell_make.specs.Low.{IsLowPlanned}
 use Rattle.cell_make.specs.Rows.{ComesFrom}
 use Rattle.cell_make.specs.declared.low_planned.LowPlanned.TheVariants as planned
@@ -13,29 +14,42 @@ of-requires c = first_least c.args.inputs.now c.args.row.now c.requires
 
 pub lowest-requires-clause-arranged : goal.lowest-requires-clause-arranged
 lowest-requires-clause-arranged c =
-    let h : IsLowPlanned c.args.inputs.now (planned.Found c.in-Found.placement c.in-Found.routing c.in-Found.certificate) = subst (IsLowPlanned c.args.inputs.now) c.in-Found.is c.in_ok-planned.ensures in
+    let h : IsLowPlanned c.args.inputs.now c.args.row.now (planned.Found c.in-Found.placement c.in-Found.routing c.in-Found.certificate) = subst (IsLowPlanned c.args.inputs.now c.args.row.now) c.in-Found.is c.in_ok-planned.ensures in
     h.1.least.arranges
 
 pub lowest-requires-clause-placed : goal.lowest-requires-clause-placed
 lowest-requires-clause-placed c =
-    let h : IsLowPlanned c.args.inputs.now (planned.Found c.in-Found.placement c.in-Found.routing c.in-Found.certificate) = subst (IsLowPlanned c.args.inputs.now) c.in-Found.is c.in_ok-planned.ensures in
+    let h : IsLowPlanned c.args.inputs.now c.args.row.now (planned.Found c.in-Found.placement c.in-Found.routing c.in-Found.certificate) = subst (IsLowPlanned c.args.inputs.now c.args.row.now) c.in-Found.is c.in_ok-planned.ensures in
     h.0
 
 pub lowest-requires-clause-legal : goal.lowest-requires-clause-legal
 lowest-requires-clause-legal c =
-    let h : IsLowPlanned c.args.inputs.now (planned.Found c.in-Found.placement c.in-Found.routing c.in-Found.certificate) = subst (IsLowPlanned c.args.inputs.now) c.in-Found.is c.in_ok-planned.ensures in
+    let h : IsLowPlanned c.args.inputs.now c.args.row.now (planned.Found c.in-Found.placement c.in-Found.routing c.in-Found.certificate) = subst (IsLowPlanned c.args.inputs.now c.args.row.now) c.in-Found.is c.in_ok-planned.ensures in
     subst (λ (p : Placement). IsLegal p c.args.inputs.now.cell.pins c.in-Found.routing) (sym h.0) h.1.legal
 
 pub returns-in_ok-came-in-Found-clause-comes : goal.returns-in_ok-came-in-Found-clause-comes
 returns-in_ok-came-in-Found-clause-comes c =
     lowest_low c.args.inputs.now c.args.row.now c.in-Found.placement c.in-Found.routing c.in-Found.certificate c.in_ok-came-in-Found.came
-    (subst (IsLowPlanned c.args.inputs.now) c.in-Found.is c.in_ok-planned.ensures) c.in_ok-came-in-Found.ensures.wired c.in_ok-came-in-Found.ensures.comes
+    (subst (IsLowPlanned c.args.inputs.now c.args.row.now) c.in-Found.is c.in_ok-planned.ensures) c.in_ok-came-in-Found.ensures.wired c.in_ok-came-in-Found.ensures.comes
 
 pub of-requires-in-Open : goal.of-requires-in-Open
-of-requires-in-Open c = c.requires.arranges
+of-requires-in-Open c =
+    let h : IsLowPlanned c.args.inputs.now c.args.row.now (planned.Open c.in-Open.wired c.in-Open.certificate) = subst (IsLowPlanned c.args.inputs.now c.args.row.now) c.in-Open.is c.in_ok-planned.ensures in
+    h.0.wired.arranges
 
 pub returns-in_ok-came-in-Open-clause-comes : goal.returns-in_ok-came-in-Open-clause-comes
 returns-in_ok-came-in-Open-clause-comes c =
-    first_low c.args.inputs.now c.args.row.now c.in-Open.certificate c.in-Open.none_wired c.spent_by-spent.result c.in_ok-came-in-Open.came
-    c.requires (subst (IsLowPlanned c.args.inputs.now) c.in-Open.is c.in_ok-planned.ensures) c.spent_by-spent.ensures
-    (subst (λ (style : Style). ComesFrom style c.args.inputs.now c.args.row.now c.in_ok-came-in-Open.came) c.plain.ensures c.in_ok-came-in-Open.ensures.comes)
+    open_low c.args.inputs.now c.args.row.now c.in-Open.wired c.in-Open.certificate c.in_ok-came-in-Open.came
+    c.requires (subst (IsLowPlanned c.args.inputs.now c.args.row.now) c.in-Open.is c.in_ok-planned.ensures)
+    (subst (λ (style : Style). ComesFrom style c.args.inputs.now c.in-Open.wired c.in_ok-came-in-Open.came) c.plain.ensures c.in_ok-came-in-Open.ensures.comes)
+
+pub place-requires-clause-columns : goal.place-requires-clause-columns
+place-requires-clause-columns c = c.requires.arranges.columns
+
+pub place-requires-clause-few : goal.place-requires-clause-few
+place-requires-clause-few c = omega (arith, few_columns c.args.inputs.now c.args.row.now c.show_limits.ensures c.requires.arranges)
+
+pub returns-in_ok-placement-in-Unwired-clause-comes : goal.returns-in_ok-placement-in-Unwired-clause-comes
+returns-in_ok-placement-in-Unwired-clause-comes c =
+    ring_low c.args.inputs.now c.args.row.now c.in-Unwired.ring c.in-Unwired.certificate c.in-Unwired.none_wired c.in_ok-placement-in-Unwired.placement
+    (subst (IsLowPlanned c.args.inputs.now c.args.row.now) c.in-Unwired.is c.in_ok-planned.ensures) c.in_ok-placement-in-Unwired.ensures.exact

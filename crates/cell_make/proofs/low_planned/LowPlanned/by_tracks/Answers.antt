@@ -1,32 +1,25 @@
 use Rattle.std.proofs.Common.{arith, subst, sym}
 use Rattle.cell_num.specs.Pins.{ArePins}
 use Rattle.cell_inputs.specs.Inputs.{AreInputs, Inputs, inputs_of}
+use Rattle.track_search.specs.Lowest.{HavePins}
 use Rattle.cell_make.proofs.LowRows.{planned_so}
 use Rattle.cell_make.proofs.Makes.{few_columns}
 use Rattle.cell_make.proofs.low_planned.LowPlanned.by_tracks.Goals as goal
 
 pub gaps-gaps-requires : goal.gaps-gaps-requires
-gaps-gaps-requires c = omega (arith, few_columns c.args.inputs.now c.args.row.now c.show_limits.ensures c.requires.least.arranges)
+gaps-gaps-requires c = omega (arith, few_columns c.args.inputs.now c.args.row c.show_limits.ensures c.requires.wired.arranges)
 
 pub lowest_row-requires : goal.lowest_row-requires
 lowest_row-requires c =
-    let inside : Inputs = inputs_of c.inputs.inside.tech c.inputs.inside.cell c.inputs.inside.fingers in
-    let are : AreInputs inside = subst AreInputs (sym c.inputs.view_is) c.show_limits.ensures in
-    c.sound_pins.ensures inside.cell.nets inside.cell.pins inside.fingers c.in_ok-kinds.kinds c.gaps-gaps.result are.sound (subst (λ n. ArePins n inside.cell.pins) (sym are.sound.named) are.pins) c.in_ok-kinds.ensures.kinds
+    let inputs : Inputs = c.args.inputs.now in
+    let are : AreInputs inputs = c.show_limits.ensures in
+    subst (λ (i : Inputs). HavePins i.cell.pins c.args.kinds.now c.gaps-gaps.result) (sym c.inputs.view_is)
+    (c.sound_pins.ensures inputs.cell.nets inputs.cell.pins inputs.fingers c.args.kinds.now c.gaps-gaps.result are.sound (subst (λ n. ArePins n inputs.cell.pins) (sym are.sound.named) are.pins) c.requires.kinds)
 
 pub returns : goal.returns
 returns c =
-    planned_so c.args.inputs.now (inputs_of c.inputs.inside.tech c.inputs.inside.cell c.inputs.inside.fingers) c.in_ok-kinds.kinds c.gaps-gaps.result c.budget.result c.args.row.now
-    (record {
-      view = c.inputs.view_is;
-      are = c.show_limits.ensures;
-      least = c.requires.least;
-      kinds = c.in_ok-kinds.ensures.kinds;
-      some = c.in_ok-kinds.ensures.sound;
-      same = c.gaps-gaps.ensures;
-      most = c.budget.ensures.is;
-    })
-    c.in_ok-lowest.lowest c.of_lowest.result c.requires.wired
+    planned_so c.args.inputs.now (inputs_of c.inputs.inside.tech c.inputs.inside.cell c.inputs.inside.fingers) c.args.kinds.now c.gaps-gaps.result c.budget.result c.args.row c.args.cycles
+    c.in_ok-lowest.lowest c.of_lowest.result c.inputs.view_is c.budget.ensures.is c.show_limits.ensures c.requires.kinds c.show_limits-2.ensures c.requires.wired c.gaps-gaps.ensures c.requires.below
     (record {
       arranges = c.in_ok-lowest.ensures.arranges;
       placed = c.in_ok-lowest.ensures.placed;
