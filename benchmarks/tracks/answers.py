@@ -39,11 +39,15 @@ def evidence_lines(row):
     return ["column " + " ".join(map(str, (column.gate, *(column.p or ("-", 0)), *(column.n or ("-", 0))))) for column in row]
 
 
+def planned(cell, name, gaps, row):
+    """The first lines of the report of a cell that is made: its row."""
+    return ["status 0 ok", f"cell {name}", f"columns {cell.columns}", f"gaps {gaps}", f"width {cell.columns + gaps}", *row_lines(cell, row)]
+
+
 def expected(cell, name, found, height):
     """The report of a cell that is made, to the line of its size."""
     width = lines_of(channel(cell, found.row), found.routing)[-1] + 8
-    return ["status 0 ok", f"cell {name}", f"columns {cell.columns}", f"gaps {found.gaps}", f"width {cell.columns + found.gaps}",
-            *row_lines(cell, found.row), f"tracks {found.tracks}", f"fewest {found.tracks}",
+    return [*planned(cell, name, found.gaps, found.row), f"tracks {found.tracks}", f"fewest {found.tracks}",
             f"size {width} {height or needed_height(cell, found.row, found.tracks)}"]
 
 
@@ -66,8 +70,12 @@ class Made:
 
     def __init__(self, program, room, cell, found):
         self.program, self.room, self.cell, self.found = str(pathlib.Path(program).resolve()), room, cell, found
-        self.first = next(rows(cell, found.gaps))
+        self.first = next(rows(cell, found.least))
         self.accepted = set()                                      # certificates that both readers accept
+
+    def listed(self, row):
+        """The row in the evidence for the gaps, where this one is drawn: the first least one if it has more gaps."""
+        return row if self.found.gaps == self.found.least else self.first
 
     def run(self, *words):
         """The lines of the report, of which the first names the status."""
@@ -86,25 +94,31 @@ class Made:
         lines = self.run("make", tech, "x.sp", "x", out, *words)
         return lines, {file.suffix[1:]: file.read_bytes() for file in self.room.glob(f"{out}.*")}
 
-    def tracks_proved(self, tech, files, fewest):
+    def tracks_proved(self, tech, files, gaps, fewest):
         """The certificate of tracks is there where it says something, and the program and the plain reader accept it."""
         same("whether there is a certificate of tracks", "ctrack" in files, fewest > 0)
         if fewest and files["ctrack"] not in self.accepted:
-            said = ["status 0 ok", "cell x", f"gaps {self.found.gaps}", f"fewest {fewest}"]
+            said = ["status 0 ok", "cell x", f"gaps {gaps}", f"fewest {fewest}"]
             same("check .. --low", self.run("check", tech, "x.sp", "x", "low.ctrack", "--low"), said)
             self.accepted.add(files["ctrack"])
-            if fewest <= MOST_READ:
-                self.read_again(files["ctrack"], fewest)
+            if fewest <= MOST_READ or b"\nlemma" not in files["ctrack"]:
+                self.read_again(files["ctrack"], gaps, fewest)
         if fewest:
             head = files["ctrack"].decode("latin-1").splitlines()[:4]
-            same("the certificate's head", head, ["cellgen-tracks 1", "cell x", f"gaps {self.found.gaps}", f"tracks {fewest}"])
+            same("the certificate's head", head, ["cellgen-tracks 1", "cell x", f"gaps {gaps}", f"tracks {fewest}"])
 
-    def read_again(self, data, fewest):
+    def read_again(self, data, gaps, fewest):
+        """By the plain reader. Lemmas on cycles are there exactly where rows with fewer gaps are, and speak of all these."""
+        cell, text = certificate.cell_of(self.room / "x.sp", "x"), data.decode("latin-1")
         try:
-            read = certificate.check(certificate.cell_of(self.room / "x.sp", "x"), "x", data.decode("latin-1"))
+            read = certificate.check(cell, "x", text)
         except certificate.Wrong as wrong:
             raise Differs(f"the other reader refuses the certificate: {wrong}") from None
-        same("the certificate", read[:2], (self.found.gaps, fewest))
+        same("the certificate", read[:2], (gaps, fewest))
+        cycles = certificate.parsed(cell, "x", text)[2]
+        if read[3]:                                                # lemmas on tracks
+            same("lemmas on cycles", bool(cycles), gaps > self.found.least)
+            same("rows with fewer gaps", not cycles or certificate.above.first_wrong(cell, gaps - 1, cycles) == (None, True), True)
 
     def evidence(self, tech, files, words, row):
         """The evidence for the gaps is accepted, and lists that row. Returns the report's lines about it."""
@@ -122,7 +136,7 @@ class Made:
         return counts
 
     def drawn(self, tech, files, words):
-        """The drawing has the trunks of the first routing, and is the subcircuit; the abstract agrees."""
+        """The drawing has the trunks of the first routing, and is the subcircuit."""
         cell, found = self.cell, self.found
         it = channel(cell, found.row)
         xs = lines_of(it, found.routing)
@@ -130,6 +144,11 @@ class Made:
         trunks = {(xs[it.spans[net][0]] - 4, base + 16 * track - 4, xs[it.spans[net][1]] + 4, base + 16 * track + 4)
                   for net, track in found.routing.items()}
         same("trunks that are not drawn", trunks - rectangles(files["gds"], METAL1), set())
+        self.extracted(tech, words)
+
+    def extracted(self, tech, words):
+        """The drawing is the subcircuit; the abstract agrees."""
+        cell = self.cell
         said = self.run("extract", tech, "low.gds", "x", *(word for word in words if word == "--taps"))
         same("extract", said[0], "status 0 ok")
         same("the nets", sorted(line.split()[2] for line in said if line.startswith("net ")), sorted(cell.nets))
@@ -147,23 +166,23 @@ class Made:
 def whole(made, tech, words, height=0, is_read=True):
     """The answer within the budget, where the cell is made."""
     said, files = made.make(tech, "low", *words)
-    counts = made.evidence(tech, files, words, made.found.row)
+    counts = made.evidence(tech, files, words, made.listed(made.found.row))
     same("the report", said, expected(made.cell, "x", made.found, height) + counts)
     same("the files", sorted(files), sorted([*("ctrack" for _ in range(made.found.tracks > 0)), "gds", "lef",
                                              "ctrail" if "--trails" in words else "clog"]))
-    made.tracks_proved(tech, files, made.found.tracks)
+    made.tracks_proved(tech, files, made.found.gaps, made.found.tracks)
     if is_read:
         made.drawn(tech, files, words)
 
 
 def unwired(made, tech, words):
-    """No least row is wired: the answer of `make`, and a proof that each takes as many tracks as there are nets."""
+    """No row can be wired: the answer of `make`, and a proof that each takes as many tracks as there are nets."""
     said, files = made.make(tech, "low", *words)
     plain, old = made.make(tech, "make", *(word for word in words if word != "--low"))
     same("the report", said, plain)
     same("the status", said[0], "status 5 cycle")
     made.evidence(tech, files, words, made.first)
-    made.tracks_proved(tech, files, len(made.cell.nets))
+    made.tracks_proved(tech, files, made.cell.columns - 1, len(made.cell.nets))
     same("the files", {**files, "ctrack": b""}, {**old, "ctrack": b""})
 
 
@@ -171,42 +190,64 @@ def too_tall(made, tech, words, height):
     said, files = made.make(tech, "low", *words)
     needed = needed_height(made.cell, made.found.row, made.found.tracks)
     same("the report", said, ["status 11 tall", f"fewest {made.found.tracks}", f"needed {needed}", f"given {height}"])
-    made.evidence(tech, files, words, made.found.row)
-    made.tracks_proved(tech, files, made.found.tracks)
+    made.evidence(tech, files, words, made.listed(made.found.row))
+    made.tracks_proved(tech, files, made.found.gaps, made.found.tracks)
     same("a drawing", {"gds", "lef"} & set(files), set())
+
+
+def gaps_spent(made, tech, words, said, files):
+    """The budget is spent in the search for a row that can be wired: what is proved of rows with fewer gaps."""
+    plain, old = made.make(tech, "make", *(word for word in words if word != "--low"))
+    same("the report", [said, plain[0]], [["status 6 unfinished", "fewest 0", *plain[1:]], "status 5 cycle"])
+    made.evidence(tech, files, words, made.first)
+    if "ctrack" in files:
+        gaps = int(files["ctrack"].decode("latin-1").splitlines()[2].split()[1])
+        same("rows that can be wired", made.found.least <= gaps < made.found.gaps, True)
+        made.tracks_proved(tech, files, gaps, len(made.cell.nets))
+    same("the files", {**files, "ctrack": b""}, {**old, "ctrack": b""})
+    return f"budget spent, no row known that can be wired, {'fewer gaps proved' if 'ctrack' in files else 'nothing proved'}"
+
+
+def tracks_spent(made, tech, words, said, files):
+    """The budget is spent on the tracks: the first row that can be wired with the fewest gaps, routed as `make` does it."""
+    found = made.found
+    at = next(at for at, line in enumerate(said) if line.startswith("tracks"))
+    same("the row", said[:at], planned(made.cell, "x", found.gaps, found.wired))
+    taken, proved = (int(line.split()[1]) for line in said[at:at + 2])
+    if not proved <= found.tracks <= taken:
+        raise Differs(f"{proved} tracks are proved and {taken} drawn, and {found.tracks} are the fewest")
+    made.tracks_proved(tech, files, found.gaps, proved)
+    same("the counts", said[at + 3:], made.evidence(tech, files, words, made.listed(found.wired)))
+    made.extracted(tech, words)
+    if found.gaps == found.least:
+        given = [word for word in words if word != "--low"] + ["--from", "low.ctrail" if "--trails" in words else "low.clog"]
+        lines, drawn = made.make(tech, "make", *given)
+        same("the drawing of the row", [said[at], *said[at + 2:at + 3], *drawn.values()],
+             [*lines[at:at + 2], *(files[ending] for ending in drawn)])
+    return f"budget spent, {'fewest less than tracks' if proved < taken else 'tracks proved fewest'}"
 
 
 def within(made, budget, words):
     """The answer with a small budget. Returns what it is."""
     tech = made.tech(budget=budget)
-    plain, old = made.make(tech, "make", *(word for word in words if word != "--low"))
     said, files = made.make(tech, "low", *words)
+    plain, old = made.make(tech, "make", *(word for word in words if word != "--low"))
     if plain[0] == "status 6 unfinished":
         same("the report", (said, files), (plain, old))
         return "search for the gaps open"
-    fewest = [line for line in said if line.startswith("fewest")]
-    proved = int(fewest[0].split()[1]) if fewest else len(made.cell.nets)
-    if said[0] == "status 0 ok" and {**files, "ctrack": b""} != {**old, "ctrack": b""}:      # not as `make` draws it
-        whole(made, tech, words, is_read=False)
-        return "budget enough for the lowest row"
     if said[0] == "status 5 cycle":
         same("a row that is wired", made.found.row, None)
         unwired(made, tech, words)
         return "budget enough for a cycle in each row"
-    made.tracks_proved(tech, files, proved)
-    made.evidence(tech, files, words, made.first)
-    most = len(made.cell.nets) if made.found.row is None else made.found.tracks
-    if proved > most:
-        raise Differs(f"{proved} tracks are proved, and {most} are enough")
-    files.pop("ctrack", None)
-    same("the files", files, old)
-    if plain[0] == "status 5 cycle":
-        same("the report", said, ["status 6 unfinished", *fewest, *plain[1:]])
-        return "budget spent, first row with a cycle"
-    at = next(at for at, line in enumerate(plain) if line.startswith("size"))
-    same("the report", said, plain[:at] + fewest + plain[at:])
-    same("the row of make", [line for line in plain if line.startswith("column ")], row_lines(made.cell, made.first))
-    return f"budget spent, {'fewest less than tracks' if f'tracks {proved}' not in plain else 'tracks proved fewest'}"
+    if said[0] == "status 6 unfinished":
+        return gaps_spent(made, tech, words, said, files)
+    same("the status", said[0], "status 0 ok")
+    same("no row that is wired", made.found.row is None, False)
+    wanted = expected(made.cell, "x", made.found, 0)
+    if said[:len(wanted)] == wanted:
+        whole(made, tech, words, is_read=False)
+        return "budget enough for the lowest row"
+    return tracks_spent(made, tech, words, said, files)
 
 
 def differences(made, draw):
@@ -215,12 +256,14 @@ def differences(made, draw):
         return [*draw.choice((["--taps"], [])), "--low", *draw.choice((["--trails"], []))]
     if made.found.row is None:
         unwired(made, "-", words())
-        yield "no least row wired"
+        yield "no row wired"
     else:
         asked = words()
         whole(made, "-", asked)
         yield f"made on {made.found.tracks} tracks"
         yield from (f"made with {word}" for word in asked if word != "--low")
+        if made.found.gaps > made.found.least:
+            yield f"no least row wired, made with {made.found.gaps - made.found.least} gaps more"
         needed = needed_height(made.cell, made.found.row, made.found.tracks)
         too_tall(made, made.tech(height=needed - 1), words(), needed - 1)
         yield "height too small"

@@ -1,13 +1,17 @@
-"""The lowest row of a small cell from its meaning: all least rows are listed, and all legal routings are tried.
+"""The lowest row of a small cell from its meaning: all rows are listed that have as few gaps as a row that can be
+wired, and all legal routings are tried.
 
 It has no states, bounds or lemmas. A row is a list of columns; a place of a column is a pair of a kind's number and a
 flip, or None. Lengths are in grid units.
 """
+import itertools
 from collections import Counter, namedtuple
 
 Column = namedtuple("Column", "gate p n")
 Channel = namedtuple("Channel", "units wide spans above")          # spans: net to its first and last line; above: pairs
-Lowest = namedtuple("Lowest", "gaps rows row tracks routing")      # rows: how many are least; routing: net to its track
+# least: the fewest gaps of all rows; gaps: of those that can be wired; rows: how many have no more; wired: the first of
+# these that can be wired; routing: net to its track
+Lowest = namedtuple("Lowest", "least gaps rows wired row tracks routing")
 
 
 class Cell:
@@ -132,19 +136,35 @@ def crossing(spans):
     return max((sum(left <= line <= right for left, right in spans.values()) for line, _ in spans.values()), default=0)
 
 
+def wired_rows(cell, gaps):
+    """How many rows have at most that many gaps, and those of them that can be wired: row, channel, trunks that cross."""
+    count, found = 0, []
+    for row in rows(cell, gaps):
+        it = channel(cell, row)
+        count += 1
+        if not has_cycle(it.spans, it.above):
+            found.append((row, it, crossing(it.spans)))
+    return count, found
+
+
+def fewest_gaps(cell):
+    return next(gaps for gaps in itertools.count() if any(True for _ in rows(cell, gaps)))
+
+
 def lowest(cell):
-    """The first of the least rows on the fewest tracks, with its first routing. The row is None where none is wired."""
-    gaps = 0
-    while not (least := [*rows(cell, gaps)]):
+    """Of the rows that can be wired with the fewest gaps the first on the fewest tracks, with its first routing. The row
+    is None where no row can be wired; then the gaps are one less than the columns."""
+    least = gaps = fewest_gaps(cell)
+    count, wired = wired_rows(cell, gaps)
+    while not wired and gaps + 1 < cell.columns:
         gaps += 1
-    channels = [(row, channel(cell, row)) for row in least]
-    wired = [(row, it, crossing(it.spans)) for row, it in channels if not has_cycle(it.spans, it.above)]
+        count, wired = wired_rows(cell, gaps)
     for tracks in range(len(cell.nets) + 1 if wired else 0):
         for row, it, crossed in wired:
             routing = first_routing(it.spans, it.above, tracks) if crossed <= tracks else None
             if routing is not None:
-                return Lowest(gaps, len(least), row, tracks, routing)
-    return Lowest(gaps, len(least), None, None, None)
+                return Lowest(least, gaps, count, wired[0][0], row, tracks, routing)
+    return Lowest(least, gaps, count, None, None, None, None)
 
 
 def lines_of(it, routing):
