@@ -65,7 +65,7 @@ free_fails value pins k lemmas s above gaps step steps some law all state fails 
     a.free (refuted value pins k lemmas (state_after k s step) left (above ++ above_step pins k s step) (gates_are_nets k some) law all (valid_after k s step some state h.leads.0) (fails left h.leads.0 sum) steps a.leads a.within)
 
 -- the first completion after the first column that does not fail is the first of the state
-pub first_through : (value : Row → State → Kinds → ℕ) (pins : Pins) (k : Kinds) (lemmas : List CycleLemma) (s : State) (above : List NetAbove) (gaps : ℕ) (ahead : Ahead) (items : List Candidate) (i : ℕ) (d : Candidate) (rest pushed : List Step) → AreSomeKinds k → Holds value k → All (IsTrueOf pins k) lemmas → IsState k s → AreCandidates k items → i < length items → All (StepFails value pins k lemmas s gaps above) (take i items) → IsAhead pins k s above gaps (get_or items i d).step ahead → IsFirstFree pins k ahead.state.state ahead.above ahead.left (reverse rest) → pushed ≡ rest ++ (get_or items i d).step ∷ [] → IsFirstFree pins k s above gaps (reverse pushed)
+pub first_through : (value : Row → State → Kinds → ℕ) (pins : Pins) (k : Kinds) (lemmas : List CycleLemma) (s : State) (above : List NetAbove) (gaps : ℕ) (ahead : Ahead) (items : List Candidate) (i : ℕ) (d : Candidate) (rest pushed : List Step) → AreSomeKinds k → Holds value k → All (IsTrueOf pins k) lemmas → IsState k s → AreCandidates k items → i < length items → All (StepFails value pins k lemmas s gaps above) (take i items) → IsAhead pins k s above gaps (get_or items i d).step ahead → IsFirstFree pins k ahead.state.state ahead.asked.pairs ahead.left (reverse rest) → pushed ≡ rest ++ (get_or items i d).step ∷ [] → IsFirstFree pins k s above gaps (reverse pushed)
 first_through value pins k lemmas s above gaps ahead items i d rest pushed some law all state are within fails a h is =
     let step : Step = (get_or items i d).step in
     let onward : List NetAbove = above ++ above_step pins k s step in
@@ -144,9 +144,3 @@ certificate value pins k s gaps above lemmas start none all any =
         any = none_follow found.it.above (subst (λ ps. All (Follows ps) found.it.above) none found.holds.follow);
       });
     }
-
--- without pairs there is no cycle
-pub no_cycle_yet : (above : List NetAbove) → above ≡ [] → HasCycle above → ⊥
-no_cycle_yet above none cycle =
-    let empty : HasCycle [] = subst HasCycle none cycle in
-    no_path empty.0 empty.1.0 empty.0 empty.1.1

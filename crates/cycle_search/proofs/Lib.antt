@@ -1,3 +1,5 @@
 pub mod Free
+pub mod Needs
 pub mod Ordered
+pub mod Table
 pub mod Visited

@@ -1,10 +1,11 @@
 -- What a visit shows of its lemmas.
-use Rattle.std.proofs.Common.{ℕ, Option, Some, None, IfSome, ◌≡◌, ◌+◌, ◌-◌, ◌≤◌, ◌++◌, List, [], ◌∷◌, length, get_or, take, take_all, inl, inr, refl, sym, ap, subst, arith, All, Any, Contains, ◌∙◌, append_assoc, append-nil}
+use Rattle.std.proofs.Common.{ℕ, Option, Some, None, IfSome, ◌≡◌, ◌+◌, ◌-◌, ◌<◌, ◌≤◌, ◌++◌, List, [], ◌∷◌, length, get_or, take, take_all, inl, inr, refl, sym, ap, subst, arith, All, Any, Contains, ◌∙◌, append_assoc, append-nil}
 use Rattle.std.specs.Prelude.{IfNone}
 use Rattle.std.proofs.lemmas.List.{get_or_default}
-use Rattle.std.proofs.lemmas.List.Elements.{All-append, All-contains, All-nil, All-weaker, Contains-append_right}
+use Rattle.std.proofs.lemmas.List.Elements.{All-append, All-contains, All-more, All-nil, All-weaker, Contains-append_right}
 use Rattle.std.proofs.lemmas.List.Quantifiers.{all_pairs_push}
 use Rattle.cell_num.specs.declared.finger.Row.{Row}
+use Rattle.cell_num.specs.declared.net.NetNo.{NetNo}
 use Rattle.cell_num.specs.declared.net.Pins.{Pins}
 use Rattle.cell_num.proofs.Lists.{all_from_contains, all_imply, all_one, contains_here}
 use Rattle.cell_num.proofs.Pairs.{Some', any_append_left, any_at, pairs_none, some_from_any}
@@ -22,7 +23,7 @@ use Rattle.row_cycles.specs.declared.lemma.CycleLemma.{CycleLemma}
 use Rattle.cycle_search.specs.declared.progress.Progress.{Progress}
 use Rattle.cycle_search.specs.declared.search.WiredRow.{WiredRow}
 use Rattle.cycle_search.specs.declared.search.WiredRow.TheVariants as ended
-use Rattle.row_cycles.specs.Above.{Follows, HasCycle, HasNets, above_end, above_step}
+use Rattle.row_cycles.specs.Above.{Follows, HasCycle, HasNets, above_end, above_step, over}
 use Rattle.row_cycles.specs.Certificate.{Covers, IsJustified, IsRefuted}
 use Rattle.row_cycles.specs.Fits.{CycleFits, IsWithin}
 use Rattle.row_cycles.specs.Noted.{AreNoted}
@@ -32,7 +33,9 @@ use Rattle.cycle_search.specs.Visit.{AreSame, IsAhead, IsGrown, IsKept, IsOpen, 
 use Rattle.row_cycles.proofs.Nets.{few_nets}
 use Rattle.row_cycles.proofs.Certified.{each_push}
 use Rattle.row_cycles.proofs.Left.{each_left, same_left}
-use Rattle.row_cycles.proofs.Paths.{cycle_beside, cycle_through, follows_beside, follows_through, one_above}
+use Rattle.row_cycles.proofs.Paths.{cycle_beside, cycle_through, first_pair, follows_beside, follows_through, last_pair, one_above}
+use Rattle.cycle_search.specs.Ways.{AddsNeeded}
+use Rattle.cycle_search.proofs.Needs.{adds_all, adds_there, among_last}
 
 -- the column leaves the lemma of these pairs justified
 abbrev pub StepFails : (Row → State → Kinds → ℕ) → Pins → Kinds → List CycleLemma → State → ℕ → List NetAbove → Candidate → Type 0
@@ -49,11 +52,11 @@ steps_fail_more value pins k xs ys more s allowed above items is all =
     refuted_more value k xs ys more (state_after k s c.step) left (above ++ above_step pins k s c.step) is (h left possible sum)) items all
 
 -- the visit of the state after the column has kept a lemma on it
-pub ahead_fails : (value : Row → State → Kinds → ℕ) (pins : Pins) (k : Kinds) (lemmas : List CycleLemma) (s : State) (allowed : ℕ) (above : List NetAbove) (step : Step) (ahead : Ahead) → IsAhead pins k s above allowed step ahead → Any (Covers ahead.state.state ahead.left ahead.above) lemmas → StepIsRefuted value pins k lemmas (lemma_at s allowed above) step
-ahead_fails value pins k lemmas s allowed above step ahead a any left possible sum =
-    inr (inr (subst (λ n. Any (Covers (state_after k s step) n (above ++ above_step pins k s step)) lemmas) (same_left (cost_of s (column_of k step)) ahead.left left allowed a.left sum)
-    (subst (λ z. Any (Covers z ahead.left (above ++ above_step pins k s step)) lemmas) a.is.state
-    (subst (λ ps. Any (Covers ahead.state.state ahead.left ps) lemmas) a.is.onward any))))
+pub ahead_fails : (value : Row → State → Kinds → ℕ) (pins : Pins) (k : Kinds) (lemmas : List CycleLemma) (s : State) (allowed : ℕ) (above need : List NetAbove) (step : Step) (ahead : Ahead) → IsAhead pins k s above allowed step ahead → Any (Covers ahead.state.state ahead.left (need ++ ahead.new)) lemmas → StepIsRefuted value pins k lemmas (lemma_at s allowed need) step
+ahead_fails value pins k lemmas s allowed above need step ahead a any left possible sum =
+    inr (inr (subst (λ n. Any (Covers (state_after k s step) n (need ++ above_step pins k s step)) lemmas) (same_left (cost_of s (column_of k step)) ahead.left left allowed a.left sum)
+    (subst (λ z. Any (Covers z ahead.left (need ++ above_step pins k s step)) lemmas) a.is.state
+    (subst (λ ps. Any (Covers ahead.state.state ahead.left (need ++ ps)) lemmas) a.is.new any))))
 
 -- where each next column fails and the end does, the lemma of these pairs is justified
 pub all_justified : (value : Row → State → Kinds → ℕ) (pins : Pins) (k : Kinds) (lemmas : List CycleLemma) (s : State) (allowed : ℕ) (above : List NetAbove) (all : List Candidate) (i : ℕ) → AreCandidates k all → IsState k s → All (HasNets k.nets) above → length all ≤ i → All (StepFails value pins k lemmas s allowed above) (take i all) → ((HasFingers k s → ⊥) → HasCycle (above ++ above_end pins s)) → IsJustified value pins k lemmas (lemma_at s allowed above)
@@ -68,16 +71,28 @@ all_justified value pins k lemmas s allowed above all i are state nets past fail
       });
     }
 
-refuted_follow : (value : Row → State → Kinds → ℕ) (k : Kinds) (lemmas : List CycleLemma) (s : State) (gaps : ℕ) (above other : List NetAbove) → ((a : NetAbove) → Contains above a → Follows other a) → IsRefuted value k lemmas s gaps above → IsRefuted value k lemmas s gaps other
-refuted_follow value k lemmas s gaps above other each (inl d) = inl d
-refuted_follow value k lemmas s gaps above other each (inr (inl cycle)) = inr (inl (cycle_through above other each cycle))
-refuted_follow value k lemmas s gaps above other each (inr (inr any)) =
+-- a lemma that is about some pairs is about those from which they follow
+pub covers_through : (lemmas : List CycleLemma) (s : State) (gaps : ℕ) (above other : List NetAbove) → ((a : NetAbove) → Contains above a → Follows other a) → Any (Covers s gaps above) lemmas → Any (Covers s gaps other) lemmas
+covers_through lemmas s gaps above other each any =
     let found : Some' (Covers s gaps above) lemmas = some_from_any (Covers s gaps above) lemmas any in
-    inr (inr (any_at (Covers s gaps other) lemmas found.it found.there (record {
+    any_at (Covers s gaps other) lemmas found.it found.there (record {
       state = found.holds.state;
       enough = found.holds.enough;
       follow = follows_through above other found.it.above each found.holds.follow;
-    })))
+    })
+
+refuted_follow : (value : Row → State → Kinds → ℕ) (k : Kinds) (lemmas : List CycleLemma) (s : State) (gaps : ℕ) (above other : List NetAbove) → ((a : NetAbove) → Contains above a → Follows other a) → IsRefuted value k lemmas s gaps above → IsRefuted value k lemmas s gaps other
+refuted_follow value k lemmas s gaps above other each (inl d) = inl d
+refuted_follow value k lemmas s gaps above other each (inr (inl cycle)) = inr (inl (cycle_through above other each cycle))
+refuted_follow value k lemmas s gaps above other each (inr (inr any)) = inr (inr (covers_through lemmas s gaps above other each any))
+
+-- a column that fails with some pairs fails with those from which they follow
+pub step_follow : (value : Row → State → Kinds → ℕ) (pins : Pins) (k : Kinds) (lemmas : List CycleLemma) (s : State) (allowed : ℕ) (above other : List NetAbove) (c : Candidate) → All (Follows other) above → StepFails value pins k lemmas s allowed above c → StepFails value pins k lemmas s allowed other c
+step_follow value pins k lemmas s allowed above other c follow h left possible sum =
+    refuted_follow value k lemmas (state_after k s c.step) left (above ++ above_step pins k s c.step) (other ++ above_step pins k s c.step) (follows_beside above other (above_step pins k s c.step) follow) (h left possible sum)
+
+pub steps_follow : (value : Row → State → Kinds → ℕ) (pins : Pins) (k : Kinds) (lemmas : List CycleLemma) (s : State) (allowed : ℕ) (above other : List NetAbove) (items : List Candidate) → All (Follows other) above → All (StepFails value pins k lemmas s allowed above) items → All (StepFails value pins k lemmas s allowed other) items
+steps_follow value pins k lemmas s allowed above other items follow all = all_imply (StepFails value pins k lemmas s allowed above) (StepFails value pins k lemmas s allowed other) items (λ c h. step_follow value pins k lemmas s allowed above other c follow h) all
 
 follows_same : (above other : List NetAbove) → All (Contains other) above → All (Follows other) above
 follows_same above other h = all_imply (Contains other) (Follows other) above (λ a there. one_above other a there) h
@@ -121,6 +136,60 @@ same_nets nets above other same all = all_imply (Contains above) (HasNets nets) 
 pub few_of : (k : Kinds) (above slice : List NetAbove) → AreSomeKinds k → All (HasNets k.nets) above → slice ≡ above → All (HasNets 256) slice
 few_of k above slice some all is = subst (All (HasNets 256)) (sym is) (few_nets k above some all)
 
+-- ---- what the refutations of next columns need
+
+follow_net : (n : ℕ) (above : List NetAbove) (a : NetAbove) → All (HasNets n) above → Follows above a → HasNets n a
+follow_net n above a all (between, h) =
+    let first : (next : NetNo) × Contains above (over a.upper next) = first_pair above a.upper between a.lower h in
+    let last : (net : NetNo) × Contains above (over net a.lower) = last_pair above a.upper between a.lower h in
+    ((All-contains (HasNets n) above (over a.upper first.0) all first.1).0, (All-contains (HasNets n) above (over last.0 a.lower) all last.1).1)
+
+pub follow_nets : (n : ℕ) (above need : List NetAbove) → All (HasNets n) above → All (Follows above) need → All (HasNets n) need
+follow_nets n above need all follow = all_imply (Follows above) (HasNets n) need (λ a h. follow_net n above a all h) follow
+
+-- a lemma that is about what is ahead refutes it
+pub open_covered : (pins : Pins) (k : Kinds) (s : State) (above : List NetAbove) (left : ℕ) (step : Step) (ahead : Ahead) (need : List NetAbove) (lemmas : List CycleLemma) → IsOpen pins k s above left step ahead → Any (Covers ahead.state.state ahead.left (need ++ ahead.new)) lemmas → Any (Covers (state_after k s step) left (need ++ above_step pins k s step)) lemmas
+open_covered pins k s above left step ahead need lemmas a any =
+    subst (λ n. Any (Covers (state_after k s step) n (need ++ above_step pins k s step)) lemmas) a.gaps
+    (subst (λ z. Any (Covers z ahead.left (need ++ above_step pins k s step)) lemmas) a.state
+    (subst (λ ps. Any (Covers ahead.state.state ahead.left (need ++ ps)) lemmas) a.new any))
+
+-- all pairs suffice
+pub covers_all : (lemmas : List CycleLemma) (s : State) (gaps : ℕ) (above need after new onward : List NetAbove) → after ≡ need ++ above → onward ≡ above ++ new → Any (Covers s gaps onward) lemmas → Any (Covers s gaps (after ++ new)) lemmas
+covers_all lemmas s gaps above need after new onward is grown any =
+    covers_through lemmas s gaps (above ++ new) (after ++ new) (λ a there. one_above (after ++ new) a (among_last need above after new is a there)) (subst (λ ps. Any (Covers s gaps ps) lemmas) grown any)
+
+-- each of these columns fails with the needed pairs, and so does the end
+pub record Fail (value : Row → State → Kinds → ℕ) (pins : Pins) (k : Kinds) (lemmas : List CycleLemma) (s : State) (allowed : ℕ) (need : List NetAbove) (items : List Candidate) : Type 0 where
+  pub each : All (StepFails value pins k lemmas s allowed need) items
+  pub ends : (HasFingers k s → ⊥) → HasCycle (need ++ above_end pins s)
+
+adds_follow : (above need after : List NetAbove) → AddsNeeded above need after → All (Follows after) need
+adds_follow above need after adds = all_from_contains (Follows after) need (λ a there. one_above after a (adds_there above need after adds a there))
+
+-- with more lemmas and more pairs they fail still
+pub fail_still : (value : Row → State → Kinds → ℕ) (pins : Pins) (k : Kinds) (xs ys more : List CycleLemma) (s : State) (allowed : ℕ) (above need after : List NetAbove) (items : List Candidate) → ys ≡ xs ++ more → AddsNeeded above need after → Fail value pins k xs s allowed need items → Fail value pins k ys s allowed after items
+fail_still value pins k xs ys more s allowed above need after items is adds h = record {
+  each = steps_fail_more value pins k xs ys more s allowed after items is
+      (steps_follow value pins k xs s allowed need after items (adds_follow above need after adds) h.each);
+  ends = λ none. cycle_beside need after (above_end pins s) (adds_follow above need after adds) (h.ends none);
+}
+
+pub fail_push : (value : Row → State → Kinds → ℕ) (pins : Pins) (k : Kinds) (lemmas : List CycleLemma) (s : State) (allowed : ℕ) (need : List NetAbove) (items : List Candidate) (i : ℕ) (d : Candidate) → i < length items → Fail value pins k lemmas s allowed need (take i items) → StepIsRefuted value pins k lemmas (lemma_at s allowed need) (get_or items i d).step → Fail value pins k lemmas s allowed need (take (i + 1) items)
+fail_push value pins k lemmas s allowed need items i d within h fails = record {
+  each = All-more (StepFails value pins k lemmas s allowed need) items i d within h.each fails;
+  ends = h.ends;
+}
+
+-- what they need follows
+pub first_needed : (above need after : List NetAbove) → need ≡ [] → AddsNeeded above need after → All (Follows above) after
+first_needed above need after none adds = adds_all above need after (subst (All (Follows above)) (sym none) (All-nil (Follows above))) adds
+
+-- the lemma of what they need is justified, in any order
+pub need_justified : (value : Row → State → Kinds → ℕ) (pins : Pins) (k : Kinds) (lemmas : List CycleLemma) (s : State) (allowed : ℕ) (need : List NetAbove) (all : List Candidate) (i : ℕ) (lemma : CycleLemma) → AreCandidates k all → IsState k s → All (HasNets k.nets) need → length all ≤ i → Fail value pins k lemmas s allowed need (take i all) → lemma ≡ lemma_at s allowed lemma.above → AreSame need lemma.above → All (HasNets k.nets) lemma.above → IsJustified value pins k lemmas lemma
+need_justified value pins k lemmas s allowed need all i lemma are state nets past h is same also =
+    justified_same value pins k lemmas s allowed need lemma (all_justified value pins k lemmas s allowed need all i are state nets past h.each h.ends) is same also
+
 -- ---- the state after a column
 
 refuted_left : (value : Row → State → Kinds → ℕ) (pins : Pins) (k : Kinds) (lemmas : List CycleLemma) (s : State) (above : List NetAbove) (allowed cost : ℕ) (step : Step) → cost ≡ cost_of s (column_of k step) → cost ≤ allowed → IsRefuted value k lemmas (state_after k s step) (allowed - cost) (above ++ above_step pins k s step) → StepIsRefuted value pins k lemmas (lemma_at s allowed above) step
@@ -137,7 +206,7 @@ ahead_some pins k s above allowed cost step None possible is low h = tt
 ahead_some pins k s above allowed cost step (Some ahead) possible is low h = record {
   possible = possible;
   left = omega (arith, is, low, h.gaps);
-  is = record { numbered = h.numbered; state = h.state; gaps = refl; onward = h.onward; nets = h.nets; none = h.none };
+  is = record { numbered = h.numbered; state = h.state; gaps = refl; new = h.new; onward = h.onward; asked = h.asked };
 }
 
 -- ---- one lemma more

@@ -16,8 +16,9 @@ use Rattle.row_cycles.specs.declared.above.NetAbove.{NetAbove}
 use Rattle.cycle_search.specs.declared.ahead.Ahead.{Ahead}
 use Rattle.row_cycles.specs.declared.lemma.CycleLemma.{CycleLemma}
 use Rattle.cycle_search.specs.declared.progress.Progress.{Progress}
-use Rattle.row_cycles.specs.Above.{HasCycle, HasNets, above_end, above_of, above_step}
+use Rattle.row_cycles.specs.Above.{HasCycle, above_end, above_of, above_step}
 use Rattle.row_cycles.specs.Noted.{AreNoted}
+use Rattle.cycle_search.specs.Below.{IsAsked}
 use Rattle.cycle_search.specs.Search.{AreKept}
 
 abbrev pub lemma_at : State → ℕ → List NetAbove → CycleLemma
@@ -51,15 +52,15 @@ pub record IsFirstFree (pins : Pins) (k : Kinds) (s : State) (above : List NetAb
       → (map (column_of k) steps ≡ map (column_of k) other)
       ⊎ RowBefore (map (column_of k) steps) (map (column_of k) other)
 
--- the state after a column, with that many gaps left, and what the lines up to there ask for, which has no cycle
+-- the state after a column, with that many gaps left, and what the lines up to there ask for
 pub record IsOpen (pins : Pins) (k : Kinds) (s : State) (above : List NetAbove) (left : ℕ) (step : Step) (ahead : Ahead)
     : Type 0 where
   pub numbered : IsNumbered k ahead.state
   pub state : ahead.state.state ≡ state_after k s step
   pub gaps : ahead.left ≡ left
-  pub onward : ahead.above ≡ above ++ above_step pins k s step
-  pub nets : All (HasNets k.nets) ahead.above
-  pub none : HasCycle ahead.above → ⊥
+  pub new : ahead.new ≡ above_step pins k s step
+  pub onward : ahead.asked.pairs ≡ above ++ above_step pins k s step
+  pub asked : IsAsked k.nets ahead.asked
 
 -- it may come next, and the gaps suffice
 pub record IsAhead (pins : Pins) (k : Kinds) (s : State) (above : List NetAbove) (allowed : ℕ) (step : Step)

@@ -2,10 +2,12 @@
 #![tactic(auto)]
 
 mod ahead;
+mod asked;
+mod below;
+mod needed;
 mod order;
 mod progress;
 mod search;
-mod used;
 mod visit;
 mod ways;
 

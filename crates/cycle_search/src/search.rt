@@ -9,10 +9,11 @@ ghost use Rattle.cycle_search.specs.Search.{AreKept, HasReason, IsEnd, IsFirstWi
 ghost use Rattle.cell_num.specs.declared.halt.Halt.TheVariants.{Spent};
 
 use crate::ahead::Task;
+use crate::asked::Asked;
 use crate::progress::Progress;
 use crate::visit::visit;
 use cell_num::{Halt, NoMemory, Pins};
-use row_cycles::{AboveList, CycleLemmas, numbered_start, row_of};
+use row_cycles::{CycleLemmas, numbered_start, row_of};
 use row_model::Arrangement;
 use row_state::{Kinds, Numbered, RowBound, candidates};
 use std::alloc::Global;
@@ -48,15 +49,16 @@ fn search_start<B: RowBound>(
     ensures spent { IfErr result (λ halt. halt ≡ Spent → IsSpent (B.value task.now.bound.now) task.now.pins.now
         task.now.kinds.now task.now.gaps task.now.budget) }
 {
-    task.kinds.show_limits();
+    let kinds = task.kinds;
+    kinds.show_limits();
     // no line is passed yet
-    let above = AboveList::new(task.alloc);
-    let found = match visit(task, progress, first, &above, task.gaps) {
+    let asked = Asked::new(task.alloc, kinds.nets)?;
+    let found = match visit(task, progress, first, &asked, task.gaps) {
         Ok(found) => found,
         Err(halt) => return Err(halt),
     };
     if let Some(steps) = found {
-        let row = row_of(task.alloc, steps.as_slice(), task.kinds)?;
+        let row = row_of(task.alloc, steps.as_slice(), kinds)?;
         return Ok(Some(row));
     }
     Ok(None)

@@ -1,7 +1,7 @@
 -- What is known of states is found by their numbers.
 use Rattle.std.proofs.Common.{ℕ, ◌≡◌, ◌≢◌, ◌<◌, ◌≤◌, ◌⊎◌, ◌↔◌, ◌++◌, List, [], ◌∷◌, Option, None, Some, Bool, length, inl, inr, refl, sym, ap, subst, arith, Any, Contains, ◌∙◌}
-use Rattle.std.specs.Prelude.{IsTrue, unwrap_or}
-use Rattle.std.proofs.lemmas.Bool.{cases_eq, cases_lt}
+use Rattle.std.specs.Prelude.{IsTrue, false, ltb, true}
+use Rattle.std.proofs.lemmas.Bool.{cases_eq, cases_lt, lt-ltb, ltb-true}
 use Rattle.std.proofs.lemmas.List.Elements.{Contains-append_cases, Contains-push}
 use Rattle.cell_num.proofs.Lists.{contains_none, contains_one}
 use Rattle.cell_num.proofs.Pairs.{Some', any_append_left, any_at, some_from_any}
@@ -13,11 +13,12 @@ use Rattle.row_state.specs.declared.state.State.{State}
 use Rattle.row_state.specs.Code.{state_code}
 use Rattle.row_state.specs.Start.{IsState}
 use Rattle.row_state.proofs.Codes.{state_same}
+use Rattle.row_cycles.proofs.Loops.{not_both}
 use Rattle.track_ways.specs.declared.lemma.TrackLemma.{TrackLemma}
 use Rattle.track_ways.specs.Certificate.{CoversAll, NeedsMore}
 use Rattle.track_search.specs.declared.by_state.ByState.{ByState}
 use Rattle.track_search.specs.declared.known.Known.{Known}
-use Rattle.track_search.specs.Bare.{AreFree, AreMost, AreNeeded, AreNeeds, IsBare, IsBelow, IsFrom, IsShut, IsUpTo, known_at, nothing_known}
+use Rattle.track_search.specs.Bare.{AreFree, AreMost, AreTooFew, IsBare, IsFrom, IsShut, IsUpTo, known_at, nothing_known}
 use Rattle.track_search.specs.Uncrowded.{HasUncrowded}
 use Rattle.track_search.proofs.Uncrowded.{uncrowded_wider}
 
@@ -125,28 +126,24 @@ bare_more k lemmas now old new x number valid code all grown here others s g sta
       )
 ])
 
--- ---- how many gaps a state needs by the bounds of its rows
+-- ---- whether a state needs more gaps by the bounds of its rows
 
-pub needed_n : (value : Row → State → Kinds → ℕ) (k : Kinds) (s : State) (p n : ℕ) → p ≡ value P s k → n ≡ value N s k → p < n → AreNeeded value k s n
-needed_n value k s p n e f less gaps = (
-  λ low. inr (omega (arith, low, f)),
+pub more_by_p : (value : Row → State → Kinds → ℕ) (k : Kinds) (s : State) (gaps : ℕ) (p : Bool) → p ≡ ltb gaps (value P s k) → p ≡ true → NeedsMore value k s gaps
+more_by_p value k s gaps p is e = inl (ltb-true gaps (value P s k) (sym is ∙ e))
+
+pub more_by_n : (value : Row → State → Kinds → ℕ) (k : Kinds) (s : State) (gaps : ℕ) (p n : Bool) → p ≡ ltb gaps (value P s k) → p ≡ false → n ≡ ltb gaps (value N s k) → IsTrue n ↔ NeedsMore value k s gaps
+more_by_n value k s gaps p n of_p f is = (
+  λ e. inr (ltb-true gaps (value N s k) (sym is ∙ e)),
   λ more. elim more [
-    | inl of_p ↦ omega (arith, of_p, e, less)
-    | inr of_n ↦ omega (arith, of_n, f)
+    | inl less ↦ absurd (not_both p (of_p ∙ lt-ltb gaps (value P s k) less) f)
+    | inr less ↦ is ∙ lt-ltb gaps (value N s k) less
   ],
 )
 
-pub needed_p : (value : Row → State → Kinds → ℕ) (k : Kinds) (s : State) (p n : ℕ) → p ≡ value P s k → n ≡ value N s k → (p < n → ⊥) → AreNeeded value k s p
-needed_p value k s p n e f not' gaps = (
-  λ low. inl (omega (arith, low, e)),
-  λ more. elim more [
-    | inl of_p ↦ omega (arith, of_p, e)
-    | inr of_n ↦ elim (cases_lt p n) [
-      | inl less ↦ absurd (not' less)
-      | inr past ↦ omega (arith, of_n, f, past)
-    ]
-  ],
-)
+-- so it does with fewer gaps
+needs_more_still : (value : Row → State → Kinds → ℕ) (k : Kinds) (s : State) (gaps most : ℕ) → gaps ≤ most → NeedsMore value k s most → NeedsMore value k s gaps
+needs_more_still value k s gaps most le (inl p) = inl (omega (arith, le, p))
+needs_more_still value k s gaps most le (inr n) = inr (omega (arith, le, n))
 
 -- ---- one state is noted
 
@@ -157,8 +154,8 @@ part_same part old new number here others q = elim (cases_eq q number) [
   | inr ne ↦ ap part (others q ne)
 ]
 
-pub needs_same : (value : Row → State → Kinds → ℕ) (k : Kinds) (old new : ByState) → ((q : ℕ) → (known_at new q).needs ≡ (known_at old q).needs) → AreNeeds value k old → AreNeeds value k new
-needs_same value k old new same all s needs state is = all s needs state (sym (same (state_code k s)) ∙ is)
+pub too_few_same : (value : Row → State → Kinds → ℕ) (k : Kinds) (old new : ByState) → ((q : ℕ) → (known_at new q).too_few ≡ (known_at old q).too_few) → AreTooFew value k old → AreTooFew value k new
+too_few_same value k old new same all s gaps state up = all s gaps state (subst (λ (o : Option ℕ). IsUpTo o gaps) (same (state_code k s)) up)
 
 pub most_same : (k : Kinds) (lemmas : List TrackLemma) (old new : ByState) → ((q : ℕ) → (known_at new q).closed ≡ (known_at old q).closed) → AreMost k lemmas old → AreMost k lemmas new
 most_same k lemmas old new same all s gaps state = subst (λ (o : Option ℕ). IsUpTo o gaps ↔ Any (CoversAll s gaps) lemmas) (sym (same (state_code k s))) (all s gaps state)
@@ -166,17 +163,14 @@ most_same k lemmas old new same all s gaps state = subst (λ (o : Option ℕ). I
 pub free_same : (pins : Pins) (limit : ℕ) (k : Kinds) (old new : ByState) → ((q : ℕ) → (known_at new q).free ≡ (known_at old q).free) → AreFree pins limit k old → AreFree pins limit k new
 free_same pins limit k old new same all s gaps state from = all s gaps state (subst (λ (o : Option ℕ). IsFrom o gaps) (same (state_code k s)) from)
 
-some_same : (a b : ℕ) → Some a ≡ Some b → a ≡ b
-some_same a b e = ap (λ (o : Option ℕ). unwrap_or o 0) e
-
-pub needs_set : (value : Row → State → Kinds → ℕ) (k : Kinds) (old new : ByState) (s : State) (number count : ℕ) → IsState k s → number ≡ state_code k s → AreNeeded value k s count → (known_at new number).needs ≡ Some count → ((q : ℕ) → q ≢ number → known_at new q ≡ known_at old q) → AreNeeds value k old → AreNeeds value k new
-needs_set value k old new s number count valid code needed here others all t needs state is = elim (cases_eq (state_code k t) number) [
+pub too_few_set : (value : Row → State → Kinds → ℕ) (k : Kinds) (old new : ByState) (s : State) (number gaps : ℕ) → IsState k s → number ≡ state_code k s → NeedsMore value k s gaps → (known_at new number).too_few ≡ Some gaps → ((q : ℕ) → q ≢ number → known_at new q ≡ known_at old q) → AreTooFew value k old → AreTooFew value k new
+too_few_set value k old new s number gaps valid code more here others all t g state up = elim (cases_eq (state_code k t) number) [
   | inl e ↦
       let same : t ≡ s = state_same k t s state valid (e ∙ code) in
-      let there : (known_at new (state_code k t)).needs ≡ Some count = subst (λ (q : ℕ). (known_at new q).needs ≡ Some count) (sym e) here in
-      let equal : count ≡ needs = some_same count needs (sym there ∙ is) in
-      subst (λ (z : State). AreNeeded value k z needs) (sym same) (subst (λ (n : ℕ). AreNeeded value k s n) equal needed)
-  | inr ne ↦ all t needs state (sym (ap (λ (x : Known). x.needs) (others (state_code k t) ne)) ∙ is)
+      let there : (known_at new (state_code k t)).too_few ≡ Some gaps = subst (λ (q : ℕ). (known_at new q).too_few ≡ Some gaps) (sym e) here in
+      let le : g ≤ gaps = subst (λ (o : Option ℕ). IsUpTo o g) there up in
+      subst (λ (z : State). NeedsMore value k z g) (sym same) (needs_more_still value k s g gaps le more)
+  | inr ne ↦ all t g state (subst (λ (x : Known). IsUpTo x.too_few g) (others (state_code k t) ne) up)
 ]
 
 pub free_set : (pins : Pins) (limit : ℕ) (k : Kinds) (old new : ByState) (s : State) (number gaps : ℕ) → IsState k s → number ≡ state_code k s → HasUncrowded pins limit k s gaps → (known_at new number).free ≡ Some gaps → ((q : ℕ) → q ≢ number → known_at new q ≡ known_at old q) → AreFree pins limit k old → AreFree pins limit k new
@@ -189,11 +183,8 @@ free_set pins limit k old new s number gaps valid code has here others all t g s
   | inr ne ↦ all t g state (subst (λ (x : Known). IsFrom x.free g) (others (state_code k t) ne) from)
 ]
 
-pub needs_none : (value : Row → State → Kinds → ℕ) (k : Kinds) (noted : ByState) → ((number : ℕ) → known_at noted number ≡ nothing_known) → AreNeeds value k noted
-needs_none value k noted nothing s needs state is = absurd (none_some needs (sym (ap (λ (x : Known). x.needs) (nothing (state_code k s))) ∙ is))
-  where
-    none_some : (n : ℕ) → ◌≡◌ {A = Option ℕ} None (Some n) → ⊥
-    none_some n e = absurd cc
+pub too_few_none : (value : Row → State → Kinds → ℕ) (k : Kinds) (noted : ByState) → ((number : ℕ) → known_at noted number ≡ nothing_known) → AreTooFew value k noted
+too_few_none value k noted nothing s gaps state up = absurd (subst (λ (x : Known). IsUpTo x.too_few gaps) (nothing (state_code k s)) up)
 
 pub free_none : (pins : Pins) (limit : ℕ) (k : Kinds) (noted : ByState) → ((number : ℕ) → known_at noted number ≡ nothing_known) → AreFree pins limit k noted
 free_none pins limit k noted nothing s gaps state from = absurd (subst (λ (x : Known). IsFrom x.free gaps) (nothing (state_code k s)) from)
@@ -212,22 +203,13 @@ shut_closed value k lemmas noted s gaps number found state code all is up =
     inr ((all s gaps state).0 (subst (λ (q : ℕ). IsUpTo ((known_at noted q).closed) gaps) code (subst (λ (x : Known). IsUpTo x.closed gaps) is up)))
 
 -- it needs more gaps by what is noted
-pub needs_below : (value : Row → State → Kinds → ℕ) (k : Kinds) (noted : ByState) (s : State) (gaps : ℕ) (o : Option ℕ) → IsState k s → AreNeeds value k noted → (known_at noted (state_code k s)).needs ≡ o → IsBelow o gaps → NeedsMore value k s gaps
-needs_below value k noted s gaps None state all is below = absurd below
-needs_below value k noted s gaps (Some needs) state all is below = (all s needs state is gaps).0 below
-
-pub shut_needs : (value : Row → State → Kinds → ℕ) (k : Kinds) (lemmas : List TrackLemma) (noted : ByState) (s : State) (gaps number : ℕ) (found : Known) → IsState k s → number ≡ state_code k s → AreNeeds value k noted → found ≡ known_at noted number → IsBelow found.needs gaps → IsShut value k lemmas s gaps
-shut_needs value k lemmas noted s gaps number found state code all is below =
-    inl (needs_below value k noted s gaps found.needs state all (ap (λ (q : ℕ). (known_at noted q).needs) (sym code) ∙ sym (ap (λ (x : Known). x.needs) is)) below)
+pub shut_too_few : (value : Row → State → Kinds → ℕ) (k : Kinds) (lemmas : List TrackLemma) (noted : ByState) (s : State) (gaps number : ℕ) (found : Known) → IsState k s → number ≡ state_code k s → AreTooFew value k noted → found ≡ known_at noted number → IsUpTo found.too_few gaps → IsShut value k lemmas s gaps
+shut_too_few value k lemmas noted s gaps number found state code all is up =
+    inl (all s gaps state (subst (λ (q : ℕ). IsUpTo ((known_at noted q).too_few) gaps) code (subst (λ (x : Known). IsUpTo x.too_few gaps) is up)))
 
 pub not_shut : (k : Kinds) (lemmas : List TrackLemma) (noted : ByState) (s : State) (gaps number : ℕ) (found : Known) → IsState k s → number ≡ state_code k s → AreMost k lemmas noted → found ≡ known_at noted number → (IsUpTo found.closed gaps → ⊥) → Any (CoversAll s gaps) lemmas → ⊥
 not_shut k lemmas noted s gaps number found state code all is none any =
     none (subst (λ (x : Known). IsUpTo x.closed gaps) (sym is) (subst (λ (q : ℕ). IsUpTo ((known_at noted q).closed) gaps) (sym code) ((all s gaps state).1 any)))
-
--- how many gaps it needs, where that is noted
-pub needed_is : (value : Row → State → Kinds → ℕ) (k : Kinds) (noted : ByState) (s : State) (number needs : ℕ) (found : Known) → IsState k s → number ≡ state_code k s → AreNeeds value k noted → found ≡ known_at noted number → found.needs ≡ Some needs → AreNeeded value k s needs
-needed_is value k noted s number needs found state code all is here =
-    all s needs state (ap (λ (q : ℕ). (known_at noted q).needs) (sym code) ∙ sym (ap (λ (x : Known). x.needs) is) ∙ here)
 
 -- whether it is known to have a completion without a crowded line
 pub free_is : (pins : Pins) (limit : ℕ) (k : Kinds) (noted : ByState) (s : State) (gaps number : ℕ) (found : Known) → IsState k s → number ≡ state_code k s → AreFree pins limit k noted → found ≡ known_at noted number → IsFrom found.free gaps → HasUncrowded pins limit k s gaps

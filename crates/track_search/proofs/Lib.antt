@@ -6,6 +6,7 @@ pub mod Kept
 pub mod Least
 pub mod Legal
 pub mod Lists
+pub mod Marked
 pub mod LowestFound
 pub mod Refuted
 pub mod Spent

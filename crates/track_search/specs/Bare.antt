@@ -1,5 +1,5 @@
 -- What is known of states by their numbers, whatever the tracks of their open nets are.
-use Rattle.std.specs.Prelude.{ℕ, ◌≡◌, ◌<◌, ◌≤◌, ◌⊎◌, ◌↔◌, List, [], Option, Some, None, Any, nat_eq, unwrap_or}
+use Rattle.std.specs.Prelude.{ℕ, ◌≡◌, ◌≤◌, ◌⊎◌, ◌↔◌, List, [], Option, Some, None, Any, nat_eq, unwrap_or}
 use Rattle.std.specs.HashMap.{get}
 use Rattle.cell_num.specs.declared.finger.Row.{Row}
 use Rattle.cell_num.specs.declared.net.Pins.{Pins}
@@ -16,7 +16,7 @@ use Rattle.track_search.specs.declared.progress.Progress.{Progress}
 use Rattle.track_search.specs.Uncrowded.{HasUncrowded}
 
 abbrev pub nothing_known : Known
-nothing_known = record { needs = None; closed = None; free = None }
+nothing_known = record { too_few = None; closed = None; free = None }
 
 abbrev pub known_at : ByState → ℕ → Known
 known_at known number = unwrap_or (get nat_eq known.known number) nothing_known
@@ -25,11 +25,6 @@ known_at known number = unwrap_or (get nat_eq known.known number) nothing_known
 abbrev pub IsUpTo : Option ℕ → ℕ → Type 0
 IsUpTo None gaps = ⊥
 IsUpTo (Some most) gaps = gaps ≤ most
-
--- a number is noted, and these are fewer
-abbrev pub IsBelow : Option ℕ → ℕ → Type 0
-IsBelow None gaps = ⊥
-IsBelow (Some needs) gaps = gaps < needs
 
 -- a number is noted, and these are no fewer
 abbrev pub IsFrom : Option ℕ → ℕ → Type 0
@@ -41,18 +36,14 @@ pub record IsBare (lemma : TrackLemma) (gaps : ℕ) : Type 0 where
   pub enough : gaps ≤ lemma.gaps
   pub any : lemma.tracks ≡ []
 
--- so many gaps the state needs by the bounds of its rows, and no more
-abbrev pub AreNeeded : (Row → State → Kinds → ℕ) → Kinds → State → ℕ → Type 0
-AreNeeded value k s needs = (gaps : ℕ) → gaps < needs ↔ NeedsMore value k s gaps
-
 -- the state needs more gaps by the bounds, or a lemma without tracks is about it and as many
 abbrev pub IsShut : (Row → State → Kinds → ℕ) → Kinds → List TrackLemma → State → ℕ → Type 0
 IsShut value k lemmas s gaps = NeedsMore value k s gaps ⊎ Any (CoversAll s gaps) lemmas
 
--- where a number is noted that a valid state needs, it is that by the bounds
-abbrev pub AreNeeds : (Row → State → Kinds → ℕ) → Kinds → ByState → Type 0
-AreNeeds value k known = (s : State) (needs : ℕ) → IsState k s
-    → (known_at known (state_code k s)).needs ≡ Some needs → AreNeeded value k s needs
+-- each valid state needs more gaps by the bounds of its rows than are noted as too few
+abbrev pub AreTooFew : (Row → State → Kinds → ℕ) → Kinds → ByState → Type 0
+AreTooFew value k known = (s : State) (gaps : ℕ) → IsState k s
+    → IsUpTo (known_at known (state_code k s)).too_few gaps → NeedsMore value k s gaps
 
 -- the most gaps are noted that lemmas without tracks have on each valid state
 abbrev pub AreMost : Kinds → List TrackLemma → ByState → Type 0
@@ -68,6 +59,6 @@ AreFree pins limit k known = (s : State) (gaps : ℕ) → IsState k s
 pub record IsNoted
     (value : Row → State → Kinds → ℕ) (pins : Pins) (limit : ℕ) (k : Kinds) (progress : Progress) : Type 0 where
   pub places : AreNoted k progress.lemmas progress.places
-  pub needs : AreNeeds value k progress.known
+  pub too_few : AreTooFew value k progress.known
   pub bare : AreMost k progress.lemmas progress.known
   pub free : AreFree pins limit k progress.known

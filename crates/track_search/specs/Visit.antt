@@ -12,7 +12,6 @@ use Rattle.row_state.specs.Start.{HasFingers, columns_left}
 use Rattle.row_state.specs.Steps.{IsPossible, column_of, state_after}
 use Rattle.track_ways.specs.Crowds.{step_uncrowded}
 use Rattle.track_ways.specs.States.{is_behind, is_open_at, is_still_ahead}
-use Rattle.track_ways.specs.Tables.{marked}
 use Rattle.track_ways.specs.Tracks.{AreKeys, IsSingle}
 use Rattle.track_ways.specs.Ways.{ends_ways, goes_ways}
 use Rattle.track_ways.specs.declared.track.NetTrack.{NetTrack}
@@ -64,15 +63,13 @@ abbrev pub ColumnFails :
 ColumnFails value pins limit k lemmas s allowed step =
     (way : List NetTrack) → StepFailsListed value pins limit k lemmas (lemma_at s allowed way) step
 
--- the state after a possible next column that leaves no line crowded, the gaps that are left there, and the nets with
--- places there or later
+-- the state after a possible next column that leaves no line crowded, and the gaps that are left there
 pub record IsAhead
     (pins : Pins) (limit : ℕ) (k : Kinds) (s : State) (allowed : ℕ) (step : Step) (ahead : Ahead) : Type 0 where
   pub possible : IsPossible k s step
   pub numbered : IsNumbered k ahead.state
   pub state : ahead.state.state ≡ state_after k s step
   pub left : cost_of s (column_of k step) + ahead.left ≡ allowed
-  pub nets : marked ahead.nets ≡ is_still_ahead k (state_after k s step)
   pub free : step_uncrowded pins limit k s step ≡ true
 
 -- a lemma is about the way, or it has all tracks of one of the ways

@@ -1,18 +1,27 @@
 // A next column that the gaps allow and that leaves no line crowded.
-ghost use Rattle.std.specs.Prelude.{◌≡◌, IfNone, IfOk, IfSome, OnOk};
+ghost use Rattle.std.specs.Prelude.{◌≡◌, ◌+◌, [], List, IfNone, IfOk, IfSome, OnOk, false};
 ghost use Rattle.row_state.specs.Candidates.{IsCandidate, IsNumbered};
+ghost use Rattle.row_state.specs.Completion.{cost_of};
 ghost use Rattle.row_state.specs.Start.{IsState, start_of};
+ghost use Rattle.row_state.specs.Steps.{IsPossible, column_of, state_after};
+ghost use Rattle.lemma_check.specs.Noted.{AreNoted};
 ghost use Rattle.track_check.specs.Touches.{AreTouches};
+ghost use Rattle.track_ways.specs.Crowds.{step_uncrowded};
 ghost use Rattle.track_ways.specs.States.{is_behind};
 ghost use Rattle.track_ways.specs.Tables.{marked};
+ghost use Rattle.track_ways.specs.Ways.{goes_ways};
+ghost use Rattle.track_ways.specs.declared.track.NetTrack.{NetTrack};
+ghost use Rattle.track_search.specs.Bare.{IsNoted};
 ghost use Rattle.track_search.specs.Visit.{ColumnFails, IsAhead, IsKept};
 
+use crate::marks::nets_after;
 use crate::progress::Progress;
 use cell_num::{NoMemory, Pins};
-use row_state::{Candidate, Kinds, Numbered, RowBound, State};
+use lemma_check::RowTrails;
+use row_state::{Candidate, Kinds, Numbered, RowBound, State, Step};
 use row_trails::NETS;
 use std::alloc::Global;
-use track_check::{nets_ahead, state_nets, touches};
+use track_check::{state_nets, touches};
 use track_ways::step_uncrowded;
 
 /// What a search is given.
@@ -40,8 +49,6 @@ pub(crate) struct Ahead {
     pub state: Numbered,
     /// How many gaps are allowed after the column.
     pub left: u32,
-    /// The nets with a place at the state's last node line or later.
-    pub nets: [bool; NETS],
 }
 
 /// The nets with a place before the state's last node line.
@@ -55,12 +62,71 @@ pub(crate) fn nets_before<B: RowBound>(task: &Task<B>, state: &State) -> [bool; 
     nets.before
 }
 
+// How many gaps are allowed after the column, or none where it may not come next, needs more gaps than are allowed, or
+// leads to a state of which it is known that these are too few, or that a kept lemma without tracks is about.
+fn gaps_after<B: RowBound>(
+    task: &Task<B>,
+    progress: &Progress,
+    at: &Numbered,
+    next: &Candidate,
+    allowed: u32,
+) -> Option<u32>
+    requires numbered { IsNumbered task.now.kinds.now at.now }
+    requires next { IsCandidate task.now.kinds.now next.now }
+    requires noted { IsNoted (B.value task.now.bound.now) task.now.pins.now task.now.limit task.now.kinds.now
+        progress.now }
+    ensures none { IfNone result (ColumnFails (B.value task.now.bound.now) task.now.pins.now task.now.limit
+        task.now.kinds.now progress.now.lemmas at.now.state allowed next.now.step) }
+    ensures possible { IfSome result (λ _. IsPossible task.now.kinds.now at.now.state next.now.step) }
+    ensures left { IfSome result (λ left. cost_of at.now.state (column_of task.now.kinds.now next.now.step) + left
+        ≡ allowed) }
+{
+    task.kinds.show_limits();
+    if !at.allows(task.kinds, next) {
+        return None;
+    }
+    let cost = at.cost(next);
+    if allowed < cost {
+        return None;
+    }
+    let left = allowed - cost;
+    if progress.is_shut(task, at.code_behind(task.kinds, next), left) {
+        return None;
+    }
+    Some(left)
+}
+
+// Whether no line to the column is crowded. `after` is the state after it.
+fn is_uncrowded<B: RowBound>(
+    task: &Task<B>,
+    state: &State,
+    before: &[bool; NETS],
+    step: &Step,
+    after: &State,
+) -> Result<bool, NoMemory>
+    requires state { IsState task.now.kinds.now state.now }
+    requires before { marked before.now ≡ is_behind task.now.kinds.now state.now }
+    requires valid { IsState task.now.kinds.now after.now }
+    requires after { after.now ≡ state_after task.now.kinds.now state.now step.now }
+    ensures is { IfOk result (λ free. free ≡ step_uncrowded task.now.pins.now task.now.limit task.now.kinds.now
+        state.now step.now) }
+    ensures crowded { IfOk result (λ free. free ≡ false → (tracks : List NetTrack)
+        → goes_ways task.now.pins.now task.now.limit task.now.kinds.now state.now tracks step.now ≡ []) }
+{
+    let nets = nets_after(task.kinds, after);
+    let free = step_uncrowded(
+        task.alloc, task.pins, task.limit, task.kinds, state, before, step, &nets,
+    )?;
+    Ok(free)
+}
+
 /// The state after the column, or none where the column may not come next, needs more gaps than are allowed, leaves a
 /// line crowded, or leads to a state that a kept lemma without tracks is about. `before` has the nets with a place
 /// before the state.
 pub(crate) fn state_ahead<B: RowBound>(
     task: &Task<B>,
     progress: &mut Progress,
+    trails: &mut RowTrails,
     at: &Numbered,
     before: &[bool; NETS],
     next: &Candidate,
@@ -71,6 +137,8 @@ pub(crate) fn state_ahead<B: RowBound>(
     requires next { IsCandidate task.now.kinds.now next.now }
     requires kept { IsKept (B.value task.now.bound.now) task.now.pins.now task.now.limit task.now.kinds.now
         task.now.gaps task.now.budget progress.old }
+    requires trails { AreNoted (B.trails_of task.now.bound.now) task.now.kinds.now trails.old }
+    ensures trails { AreNoted (B.trails_of task.now.bound.now) task.now.kinds.now trails.new }
     ensures kept { OnOk result (IsKept (B.value task.now.bound.now) task.now.pins.now task.now.limit
         task.now.kinds.now task.now.gaps task.now.budget progress.new) }
     ensures lemmas { progress.new.lemmas ≡ progress.old.lemmas }
@@ -80,28 +148,15 @@ pub(crate) fn state_ahead<B: RowBound>(
         at.now.state allowed next.now.step)) }
 {
     task.kinds.show_limits();
-    if !at.allows(task.kinds, next) {
+    let Some(left) = gaps_after(task, progress, at, next, allowed) else {
         return Ok(None);
-    }
-    let cost = at.cost(next);
-    if allowed < cost {
-        return Ok(None);
-    }
-    let left = allowed - cost;
-    if progress.is_shut(task, at.code_behind(task.kinds, next), left) {
-        return Ok(None);
-    }
+    };
     let state = at.behind(task.alloc, task.kinds, next)?;
-    let needs = progress.needs(task, &state)?;
-    if left < needs {
+    if progress.needs_more(task, trails, &state, left)? {
         return Ok(None);
     }
-    let here = touches(task.kinds, &state.state);
-    let nets = nets_ahead(&here);
-    if !step_uncrowded(
-        task.alloc, task.pins, task.limit, task.kinds, &at.state, before, &next.step, &nets,
-    )? {
+    if !is_uncrowded(task, &at.state, before, &next.step, &state.state)? {
         return Ok(None);
     }
-    Ok(Some(Ahead { state, left, nets }))
+    Ok(Some(Ahead { state, left }))
 }

@@ -48,7 +48,7 @@ impl ByState {
 pub(crate) fn note(known: &mut ByState, number: u128, lemma: &TrackLemma) -> Result<(), NoMemory>
     ensures here { OnOk result ((n : ℕ) → IsUpTo (known_at known.new number).closed n
         ↔ (IsUpTo (known_at known.old number).closed n ⊎ IsBare lemma.now n)) }
-    ensures needs { OnOk result ((known_at known.new number).needs ≡ (known_at known.old number).needs) }
+    ensures too_few { OnOk result ((known_at known.new number).too_few ≡ (known_at known.old number).too_few) }
     ensures free { OnOk result ((known_at known.new number).free ≡ (known_at known.old number).free) }
     ensures others { OnOk result ((q : ℕ) → q ≢ number → known_at known.new q ≡ known_at known.old q) }
 {

@@ -1,7 +1,9 @@
 // States of which each completion has a crowded line: for all tracks at once.
-ghost use Rattle.std.specs.Prelude.{ℕ, ◌≡◌, ◌+◌, ◌≤◌, [], ◌∷◌, All, Any, IfErr, IfOk, IsTrue, OnOk, false};
-ghost use Rattle.row_state.specs.Candidates.{AreCandidates, IsNumbered};
+ghost use Rattle.std.specs.Prelude.{ℕ, ◌≡◌, ◌+◌, ◌≤◌, [], ◌∷◌, All, Any};
+ghost use Rattle.std.specs.Prelude.{IfErr, IfNone, IfOk, IfSome, IsTrue, OnOk, false};
+ghost use Rattle.row_state.specs.Candidates.{AreCandidates, IsCandidate, IsNumbered};
 ghost use Rattle.row_state.specs.Start.{HasFingers, IsState, columns_left, start_of};
+ghost use Rattle.lemma_check.specs.Noted.{AreNoted};
 ghost use Rattle.track_ways.specs.Certificate.{CoversAll};
 ghost use Rattle.track_ways.specs.Paths.{EndsFit};
 ghost use Rattle.track_ways.specs.States.{is_behind};
@@ -9,13 +11,14 @@ ghost use Rattle.track_ways.specs.Tables.{marked};
 ghost use Rattle.track_check.specs.Touches.{AreTouches};
 ghost use Rattle.track_search.specs.Kept.{IsSpentBelow};
 ghost use Rattle.track_search.specs.Uncrowded.{HasUncrowded};
-ghost use Rattle.track_search.specs.Visit.{EndsFail, IsGrown, IsKept};
+ghost use Rattle.track_search.specs.Visit.{ColumnFails, EndsFail, IsAhead, IsGrown, IsKept};
 ghost use Rattle.cell_num.specs.declared.halt.Halt.TheVariants.{Spent};
 
-use crate::ahead::{Task, nets_before, state_ahead};
+use crate::ahead::{Ahead, Task, nets_before, state_ahead};
 use crate::progress::Progress;
 use cell_num::{Halt, NoMemory};
-use row_state::{Numbered, RowBound, State, has_fingers};
+use lemma_check::RowTrails;
+use row_state::{Candidate, Numbered, RowBound, State, has_fingers};
 use row_trails::NETS;
 use track_ways::{NetTracks, end_uncrowded};
 
@@ -44,6 +47,7 @@ fn ends_open<B: RowBound>(
 pub(crate) fn closes<B: RowBound>(
     task: &Task<B>,
     progress: &mut Progress,
+    trails: &mut RowTrails,
     at: &Numbered,
     allowed: u32,
 ) -> Result<bool, Halt>
@@ -54,6 +58,8 @@ pub(crate) fn closes<B: RowBound>(
     requires gaps { allowed ≤ task.now.gaps }
     requires kept { IsKept (B.value task.now.bound.now) task.now.pins.now task.now.limit task.now.kinds.now
         task.now.gaps task.now.budget progress.old }
+    requires trails { AreNoted (B.trails_of task.now.bound.now) task.now.kinds.now trails.old }
+    ensures trails { AreNoted (B.trails_of task.now.bound.now) task.now.kinds.now trails.new }
     ensures grown { OnOk result (IsGrown (B.value task.now.bound.now) task.now.pins.now task.now.limit
         task.now.kinds.now task.now.gaps task.now.budget (columns_left task.now.kinds.now at.now.state + 1)
         progress.old progress.new) }
@@ -76,10 +82,10 @@ pub(crate) fn closes<B: RowBound>(
         return Ok(false);
     }
     for next in task.candidates {
-        let Some(ahead) = state_ahead(task, progress, at, &before, next, allowed)? else {
+        let Some(ahead) = state_ahead(task, progress, trails, at, &before, next, allowed)? else {
             continue;
         };
-        let closed = match closes(task, progress, &ahead.state, ahead.left) {
+        let closed = match closes(task, progress, trails, &ahead.state, ahead.left) {
             Ok(closed) => closed,
             Err(halt) => return Err(halt),
         };
@@ -93,4 +99,50 @@ pub(crate) fn closes<B: RowBound>(
         Ok(()) => Ok(true),
         Err(halt) => Err(halt),
     }
+}
+
+/// The state after the column with a completion that has no crowded line, or none where the column fails whatever the
+/// tracks are. `before` has the nets with a place before the state.
+pub(crate) fn open_ahead<B: RowBound>(
+    task: &Task<B>,
+    progress: &mut Progress,
+    trails: &mut RowTrails,
+    at: &Numbered,
+    before: &[bool; NETS],
+    next: &Candidate,
+    allowed: u32,
+) -> Result<Option<Ahead>, Halt>
+    requires candidates { AreCandidates task.now.kinds.now task.now.candidates.now }
+    requires all { AreTouches task.now.kinds.now (start_of task.now.kinds.now) task.now.all.now }
+    requires numbered { IsNumbered task.now.kinds.now at.now }
+    requires ends { EndsFit task.now.kinds.now at.now.state }
+    requires before { marked before.now ≡ is_behind task.now.kinds.now at.now.state }
+    requires next { IsCandidate task.now.kinds.now next.now }
+    requires gaps { allowed ≤ task.now.gaps }
+    requires kept { IsKept (B.value task.now.bound.now) task.now.pins.now task.now.limit task.now.kinds.now
+        task.now.gaps task.now.budget progress.old }
+    requires trails { AreNoted (B.trails_of task.now.bound.now) task.now.kinds.now trails.old }
+    ensures trails { AreNoted (B.trails_of task.now.bound.now) task.now.kinds.now trails.new }
+    ensures grown { OnOk result (IsGrown (B.value task.now.bound.now) task.now.pins.now task.now.limit
+        task.now.kinds.now task.now.gaps task.now.budget (columns_left task.now.kinds.now at.now.state)
+        progress.old progress.new) }
+    ensures none { IfOk result (λ ahead. IfNone ahead (ColumnFails (B.value task.now.bound.now) task.now.pins.now
+        task.now.limit task.now.kinds.now progress.new.lemmas at.now.state allowed next.now.step)) }
+    ensures some { IfOk result (λ ahead. IfSome ahead (IsAhead task.now.pins.now task.now.limit task.now.kinds.now
+        at.now.state allowed next.now.step)) }
+    ensures spent { IfErr result (λ halt. halt ≡ Spent → IsSpentBelow (B.value task.now.bound.now) task.now.pins.now
+        task.now.limit task.now.kinds.now task.now.gaps task.now.budget) }
+{
+    task.kinds.show_limits();
+    let Some(ahead) = state_ahead(task, progress, trails, at, before, next, allowed)? else {
+        return Ok(None);
+    };
+    let closed = match closes(task, progress, trails, &ahead.state, ahead.left) {
+        Ok(closed) => closed,
+        Err(halt) => return Err(halt),
+    };
+    if closed {
+        return Ok(None);
+    }
+    Ok(Some(ahead))
 }

@@ -1,6 +1,7 @@
 ghost use Rattle.std.specs.Prelude.{◌≡◌, ◌+◌, ◌≤◌, All, IfErr, IfNone, IfOk, IfSome, OnOk, reverse};
 ghost use Rattle.row_state.specs.Candidates.{AreCandidates, IsNumbered};
 ghost use Rattle.row_state.specs.Start.{columns_left, start_of};
+ghost use Rattle.lemma_check.specs.Noted.{AreNoted};
 ghost use Rattle.track_ways.specs.Paths.{EndsFit};
 ghost use Rattle.track_check.specs.Touches.{AreTouches};
 ghost use Rattle.track_search.specs.First.{IsFirstRouted};
@@ -8,12 +9,13 @@ ghost use Rattle.track_search.specs.Kept.{IsSpentBelow};
 ghost use Rattle.track_search.specs.Visit.{AreBelow, AreCovered, AreFresh, AreWaysAt, IsGrown, IsKept};
 ghost use Rattle.cell_num.specs.declared.halt.Halt.TheVariants.{Spent};
 
-use crate::ahead::{Task, nets_before, state_ahead};
-use crate::closed::closes;
+use crate::ahead::{Task, nets_before};
+use crate::closed::open_ahead;
 use crate::ends::ends;
 use crate::onward::onward_ways;
 use crate::progress::Progress;
 use cell_num::Halt;
+use lemma_check::RowTrails;
 use row_state::{Numbered, RowBound, Steps};
 use track_ways::TrackWays;
 
@@ -22,6 +24,7 @@ use track_ways::TrackWays;
 pub(crate) fn visit<B: RowBound>(
     task: &Task<B>,
     progress: &mut Progress,
+    trails: &mut RowTrails,
     at: &Numbered,
     ways: &TrackWays,
     allowed: u32,
@@ -36,6 +39,8 @@ pub(crate) fn visit<B: RowBound>(
     requires gaps { allowed ≤ task.now.gaps }
     requires kept { IsKept (B.value task.now.bound.now) task.now.pins.now task.now.limit task.now.kinds.now
         task.now.gaps task.now.budget progress.old }
+    requires trails { AreNoted (B.trails_of task.now.bound.now) task.now.kinds.now trails.old }
+    ensures trails { AreNoted (B.trails_of task.now.bound.now) task.now.kinds.now trails.new }
     ensures grown { OnOk result (IsGrown (B.value task.now.bound.now) task.now.pins.now task.now.limit
         task.now.kinds.now task.now.gaps task.now.budget (columns_left task.now.kinds.now at.now.state + 1)
         progress.old progress.new) }
@@ -54,16 +59,13 @@ pub(crate) fn visit<B: RowBound>(
         return Ok(Some(Steps::new(task.alloc)));
     }
     for next in task.candidates {
-        let Some(ahead) = state_ahead(task, progress, at, &before, next, allowed)? else {
-            continue;
-        };
-        let closed = match closes(task, progress, &ahead.state, ahead.left) {
-            Ok(closed) => closed,
+        let opened = match open_ahead(task, progress, trails, at, &before, next, allowed) {
+            Ok(opened) => opened,
             Err(halt) => return Err(halt),
         };
-        if closed {
+        let Some(ahead) = opened else {
             continue;
-        }
+        };
         let onward = onward_ways(
             task,
             &progress.noted(),
@@ -73,7 +75,7 @@ pub(crate) fn visit<B: RowBound>(
             &ahead,
             ways,
         )?;
-        let tried = match visit(task, progress, &ahead.state, &onward, ahead.left) {
+        let tried = match visit(task, progress, trails, &ahead.state, &onward, ahead.left) {
             Ok(tried) => tried,
             Err(halt) => return Err(halt),
         };

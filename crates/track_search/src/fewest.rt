@@ -2,6 +2,7 @@
 ghost use Rattle.std.specs.Prelude.{◌≡◌, All, IfOk};
 ghost use Rattle.row_state.specs.Candidates.{AreCandidates, IsNumbered};
 ghost use Rattle.row_state.specs.Start.{start_of};
+ghost use Rattle.lemma_check.specs.Noted.{AreNoted};
 ghost use Rattle.track_check.specs.Touches.{AreTouches};
 ghost use Rattle.track_search.specs.Fewest.{AreAtMost, AreLegalTracks, IsFewest, IsOpen, TakeTracks};
 ghost use Rattle.track_search.specs.Fewest.{least_of, lemmas_of};
@@ -11,6 +12,7 @@ use crate::Limit;
 use crate::ahead::Task;
 use crate::limit::search_task;
 use cell_num::{NoMemory, Pins};
+use lemma_check::RowTrails;
 use row_cycles::numbered_start;
 use row_model::Arrangement;
 use row_state::{Kinds, Numbered, RowBound, candidates};
@@ -36,11 +38,17 @@ pub enum Fewest {
 }
 
 // Tries the limits in turn, from 0 on. Each is left what the lemmas below it leave of the budget.
-fn try_limits<B: RowBound>(task: &Task<B>, first: &Numbered, most: u32) -> Result<Fewest, NoMemory>
+fn try_limits<B: RowBound>(
+    task: &Task<B>,
+    first: &Numbered,
+    trails: &mut RowTrails,
+    most: u32,
+) -> Result<Fewest, NoMemory>
     requires candidates { AreCandidates task.now.kinds.now task.now.candidates.now }
     requires all { AreTouches task.now.kinds.now (start_of task.now.kinds.now) task.now.all.now }
     requires state { first.now.state ≡ start_of task.now.kinds.now }
     requires numbered { IsNumbered task.now.kinds.now first.now }
+    requires trails { AreNoted (B.trails_of task.now.bound.now) task.now.kinds.now trails.old }
     ensures fewest { IfOk result (IsFewest (B.value task.now.bound.now) task.now.pins.now task.now.kinds.now
         task.now.gaps) }
     ensures most { IfOk result (AreAtMost most) }
@@ -58,7 +66,7 @@ fn try_limits<B: RowBound>(task: &Task<B>, first: &Numbered, most: u32) -> Resul
             budget,
             ..*task
         };
-        match search_task(&here, first)? {
+        match search_task(&here, first, trails)? {
             Limit::Found { row } => {
                 return Ok(Fewest::Found {
                     row,
@@ -125,6 +133,7 @@ pub fn fewest_tracks<B: RowBound>(
         gaps,
         budget,
     };
-    let fewest = try_limits(&task, &first, most)?;
+    let mut trails = RowTrails::new(alloc);
+    let fewest = try_limits(&task, &first, &mut trails, most)?;
     Ok(fewest)
 }

@@ -12,6 +12,7 @@ mod known;
 mod laws;
 mod limit;
 mod lowest;
+mod marks;
 mod onward;
 mod order;
 mod progress;

@@ -2,6 +2,7 @@
 ghost use Rattle.std.specs.Prelude.{◌≡◌, ◌≤◌, [], ◌∷◌, IfErr, IfNone, IfOk, IfSome, length};
 ghost use Rattle.row_state.specs.Candidates.{AreCandidates, IsNumbered};
 ghost use Rattle.row_state.specs.Start.{start_of};
+ghost use Rattle.lemma_check.specs.Noted.{AreNoted};
 ghost use Rattle.track_check.specs.Touches.{AreTouches};
 ghost use Rattle.track_ways.specs.Certificate.{Certifies};
 ghost use Rattle.cell_num.specs.declared.halt.Halt.TheVariants.{Spent};
@@ -13,6 +14,7 @@ use crate::ahead::Task;
 use crate::descent::visit;
 use crate::progress::Progress;
 use cell_num::{Halt, NoMemory, Pins};
+use lemma_check::RowTrails;
 use row_cycles::{numbered_start, row_of};
 use row_model::Arrangement;
 use row_state::{Kinds, Numbered, RowBound, candidates};
@@ -45,6 +47,7 @@ fn search_start<B: RowBound>(
     task: &Task<B>,
     first: &Numbered,
     progress: &mut Progress,
+    trails: &mut RowTrails,
 ) -> Result<Option<Arrangement>, Halt>
     requires candidates { AreCandidates task.now.kinds.now task.now.candidates.now }
     requires all { AreTouches task.now.kinds.now (start_of task.now.kinds.now) task.now.all.now }
@@ -53,6 +56,8 @@ fn search_start<B: RowBound>(
     requires lemmas { progress.old.lemmas ≡ [] }
     requires noted { IsNoted (B.value task.now.bound.now) task.now.pins.now task.now.limit task.now.kinds.now
         progress.old }
+    requires trails { AreNoted (B.trails_of task.now.bound.now) task.now.kinds.now trails.old }
+    ensures trails { AreNoted (B.trails_of task.now.bound.now) task.now.kinds.now trails.new }
     ensures found { IfOk result (λ r. IfSome r (IsFirstRow task.now.pins.now task.now.limit task.now.kinds.now
         task.now.gaps)) }
     ensures none { IfOk result (λ r. IfNone r (Certifies (B.value task.now.bound.now) task.now.pins.now task.now.limit
@@ -65,7 +70,7 @@ fn search_start<B: RowBound>(
 {
     task.kinds.show_limits();
     let ways = no_tracks(task.alloc)?;
-    let found = match visit(task, progress, first, &ways, task.gaps) {
+    let found = match visit(task, progress, trails, first, &ways, task.gaps) {
         Ok(found) => found,
         Err(halt) => return Err(halt),
     };
@@ -76,19 +81,25 @@ fn search_start<B: RowBound>(
     Ok(None)
 }
 
-/// The search from the start.
-pub(crate) fn search_task<B: RowBound>(task: &Task<B>, first: &Numbered) -> Result<Limit, NoMemory>
+/// The search from the start. The trails of rows are those by the bound, whatever the limit.
+pub(crate) fn search_task<B: RowBound>(
+    task: &Task<B>,
+    first: &Numbered,
+    trails: &mut RowTrails,
+) -> Result<Limit, NoMemory>
     requires candidates { AreCandidates task.now.kinds.now task.now.candidates.now }
     requires all { AreTouches task.now.kinds.now (start_of task.now.kinds.now) task.now.all.now }
     requires state { first.now.state ≡ start_of task.now.kinds.now }
     requires numbered { IsNumbered task.now.kinds.now first.now }
+    requires trails { AreNoted (B.trails_of task.now.bound.now) task.now.kinds.now trails.old }
+    ensures trails { AreNoted (B.trails_of task.now.bound.now) task.now.kinds.now trails.new }
     ensures end { IfOk result (IsEnd (B.value task.now.bound.now) task.now.pins.now task.now.limit task.now.kinds.now
         task.now.gaps) }
     ensures kept { IfOk result (HasReason (B.value task.now.bound.now) task.now.pins.now task.now.limit
         task.now.kinds.now task.now.gaps task.now.budget) }
 {
     let mut progress = Progress::new(task.alloc);
-    match search_start(task, first, &mut progress) {
+    match search_start(task, first, &mut progress, trails) {
         Ok(Some(row)) => Ok(Limit::Found { row }),
         Ok(None) => Ok(Limit::Refuted {
             lemmas: progress.lemmas,
@@ -131,6 +142,7 @@ pub fn search_limit<B: RowBound>(
         gaps,
         budget,
     };
-    let ended = search_task(&task, &first)?;
+    let mut trails = RowTrails::new(alloc);
+    let ended = search_task(&task, &first, &mut trails)?;
     Ok(ended)
 }

@@ -2,12 +2,13 @@
 ghost use Rattle.std.specs.Prelude.{◌≡◌, ◌↔◌, All, Any, IfOk, IsTrue, OnOk, false};
 ghost use Rattle.row_state.specs.Start.{IsState};
 ghost use Rattle.row_state.specs.Steps.{state_after};
-ghost use Rattle.track_ways.specs.States.{is_behind, is_still_ahead};
+ghost use Rattle.track_ways.specs.States.{is_behind};
 ghost use Rattle.track_ways.specs.Tables.{marked};
 ghost use Rattle.track_check.specs.Noted.{AreNotedAt};
 ghost use Rattle.track_search.specs.Visit.{AreAdded, AreFresh, AreTaken, GoOn, HasPart};
 
 use crate::ahead::{Ahead, Task};
+use crate::marks::nets_after;
 use crate::order::copied_way;
 use cell_num::NoMemory;
 use row_state::{Candidate, Numbered, RowBound, State};
@@ -74,8 +75,8 @@ pub(crate) fn onward_ways<B: RowBound>(
 ) -> Result<TrackWays, NoMemory>
     requires state { IsState task.now.kinds.now state.now }
     requires before { marked before.now ≡ is_behind task.now.kinds.now state.now }
-    requires nets { marked ahead.now.nets ≡ is_still_ahead task.now.kinds.now
-        (state_after task.now.kinds.now state.now next.now.step) }
+    requires valid { IsState task.now.kinds.now ahead.now.state.state }
+    requires after { ahead.now.state.state ≡ state_after task.now.kinds.now state.now next.now.step }
     requires noted { AreNotedAt known.now.lemmas.now known.now.places.now ahead.now.state }
     ensures taken { IfOk result (λ onward. All (AreTaken task.now.pins.now task.now.limit task.now.kinds.now
         known.now.lemmas.now state.now next.now.step ahead.now.state.state ahead.now.left onward) ways.now) }
@@ -83,18 +84,11 @@ pub(crate) fn onward_ways<B: RowBound>(
         next.now.step ways.now) onward) }
     ensures fresh { IfOk result (AreFresh known.now.lemmas.now ahead.now.state.state ahead.now.left) }
 {
+    let nets = nets_after(task.kinds, &ahead.state.state);
     let mut onward = TrackWays::new(task.alloc);
     for way in ways.as_slice() {
         let found = step_ways(
-            task.alloc,
-            task.pins,
-            task.limit,
-            task.kinds,
-            state,
-            before,
-            &next.step,
-            &ahead.nets,
-            way,
+            task.alloc, task.pins, task.limit, task.kinds, state, before, &next.step, &nets, way,
         )?;
         add_new(
             task.alloc,

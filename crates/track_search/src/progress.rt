@@ -7,17 +7,19 @@ ghost use Rattle.row_state.specs.declared.state.State.{State as StateOf};
 ghost use Rattle.row_state.specs.Candidates.{IsNumbered};
 ghost use Rattle.row_state.specs.Code.{state_code};
 ghost use Rattle.row_state.specs.Start.{IsState};
-ghost use Rattle.track_ways.specs.Certificate.{CoversAll};
-ghost use Rattle.track_search.specs.Bare.{AreNeeded, IsFrom, IsNoted, IsShut, known_at};
+ghost use Rattle.lemma_check.specs.Noted.{AreNoted};
+ghost use Rattle.track_ways.specs.Certificate.{CoversAll, NeedsMore};
+ghost use Rattle.track_search.specs.Bare.{IsFrom, IsNoted, IsShut, known_at};
 ghost use Rattle.track_search.specs.Uncrowded.{HasUncrowded};
 ghost use Rattle.track_search.specs.Visit.{IsCutOff, kept_at};
 ghost use Rattle.cell_num.specs.declared.halt.Halt.TheVariants.{Spent};
 
 use crate::ahead::Task;
 use crate::by_state::{ByState, note};
-use crate::known::{Known, count_needed, is_below, is_from, is_up_to};
+use crate::known::{Known, is_from, is_up_to, needs_more};
 use crate::order::kept_at;
 use cell_num::{Halt, NoMemory};
+use lemma_check::RowTrails;
 use row_cycles::Places;
 use row_state::{Numbered, RowBound};
 use std::alloc::Global;
@@ -78,31 +80,36 @@ impl Progress {
             → result ≡ false → Any (CoversAll s gaps) self.now.lemmas → ⊥ }
     {
         let known = self.known.at(number);
-        is_up_to(known.closed, gaps) || is_below(known.needs, gaps)
+        is_up_to(known.closed, gaps) || is_up_to(known.too_few, gaps)
     }
 
-    /// How many gaps the state needs by the bounds of its rows. It is counted once for each state.
-    pub(crate) fn needs<B: RowBound>(
+    /// Whether the state needs more gaps by the bounds of its rows. Where it does, it is noted that these are too few.
+    pub(crate) fn needs_more<B: RowBound>(
         &mut self,
         task: &Task<B>,
+        trails: &mut RowTrails,
         at: &Numbered,
-    ) -> Result<u32, NoMemory>
+        gaps: u32,
+    ) -> Result<bool, NoMemory>
         requires numbered { IsNumbered task.now.kinds.now at.now }
         requires noted { IsNoted (B.value task.now.bound.now) task.now.pins.now task.now.limit task.now.kinds.now
             self.old }
-        ensures needs { IfOk result (AreNeeded (B.value task.now.bound.now) task.now.kinds.now at.now.state) }
+        requires trails { AreNoted (B.trails_of task.now.bound.now) task.now.kinds.now trails.old }
+        ensures trails { AreNoted (B.trails_of task.now.bound.now) task.now.kinds.now trails.new }
+        ensures more { IfOk result (λ more. IsTrue more ↔ NeedsMore (B.value task.now.bound.now) task.now.kinds.now
+            at.now.state gaps) }
         ensures lemmas { self.new.lemmas ≡ self.old.lemmas }
         ensures noted { OnOk result (IsNoted (B.value task.now.bound.now) task.now.pins.now task.now.limit
             task.now.kinds.now self.new) }
     {
-        let here = self.known.at(at.code);
-        if let Some(needs) = here.needs {
-            return Ok(needs);
+        let more = needs_more(task, trails, &at.state, gaps)?;
+        if !more {
+            return Ok(false);
         }
-        let count = count_needed(task.bound, task.kinds, &at.state);
-        let needs = Some(count);
-        self.known.set(at.code, Known { needs, ..here })?;
-        Ok(count)
+        let here = self.known.at(at.code);
+        let too_few = Some(gaps);
+        self.known.set(at.code, Known { too_few, ..here })?;
+        Ok(true)
     }
 
     /// Whether the state is known to have a completion without a crowded line, with that many gaps.

@@ -1,20 +1,33 @@
-use Rattle.std.proofs.Common.{ap, subst, sym, ◌∙◌, ◌++◌}
+use Rattle.std.proofs.Common.{ap, subst, ◌∙◌, ◌++◌}
 use Rattle.row_cycles.specs.Above.{HasCycle, above_end}
 use Rattle.row_cycles.proofs.Loops.{not_both}
-use Rattle.row_cycles.proofs.Nets.{both_nets, end_nets}
+use Rattle.cycle_search.proofs.Needs.{adds_none, adds_on, adds_some, all_follow_self, cycle_all}
 use Rattle.cycle_search.proofs.ahead.ends.Goals as goal
+
+pub returns-then-has_fingers-clause-adds : goal.returns-then-has_fingers-clause-adds
+returns-then-has_fingers-clause-adds g c = adds_none c.args.asked.now.pairs c.args.need.now
 
 pub returns-then-has_fingers-clause-no : goal.returns-then-has_fingers-clause-no
 returns-then-has_fingers-clause-no g c = λ e none. absurd (none ((c.has_fingers.ensures c.args.task.now.kinds.now c.requires.numbered.valid).0 c.if-has_fingers.true))
 
-pub has_cycle-requires : goal.has_cycle-requires
-has_cycle-requires g c = record { nets = both_nets c.args.task.now.kinds.now c.args.above.now (above_end c.args.task.now.pins.now c.args.at.now.state) c.as_slice.result.now c.show_limits.ensures c.requires.nets (end_nets c.args.task.now.pins.now c.args.task.now.kinds.now c.args.at.now.state c.requires.numbered.valid) (c.as_slice.ensures ∙ c.in_ok-add_end.ensures ∙ ap (λ ps. ps ++ above_end c.args.task.now.pins.now c.args.at.now.state) c.in_ok-all.ensures) }
+pub ends_in_cycle-requires-clause-new : goal.ends_in_cycle-requires-clause-new
+ends_in_cycle-requires-clause-new g c = (c.as_slice.ensures ∙ c.in_ok-add_end.ensures ∙ ap (λ ps. ps ++ above_end c.args.task.now.pins.now c.args.at.now.state) c.new-new.ensures)
 
-pub returns-then-has_cycle-clause-no : goal.returns-then-has_cycle-clause-no
-returns-then-has_cycle-clause-no g c = λ e none. subst HasCycle (c.as_slice.ensures ∙ c.in_ok-add_end.ensures ∙ ap (λ ps. ps ++ above_end c.args.task.now.pins.now c.args.at.now.state) c.in_ok-all.ensures) (c.has_cycle.ensures.0 c.if-has_cycle.true)
+pub returns-then-not-branch-clause-adds : goal.returns-then-not-branch-clause-adds
+returns-then-not-branch-clause-adds g c = adds_none c.args.asked.now.pairs c.args.need.now
 
-pub returns-clause-yes : goal.returns-clause-yes
-returns-clause-yes g c = λ e. record {
+pub returns-then-not-branch-clause-yes : goal.returns-then-not-branch-clause-yes
+returns-then-not-branch-clause-yes g c = λ e. record {
   none = λ has. not_both c.has_fingers.result ((c.has_fingers.ensures c.args.task.now.kinds.now c.requires.numbered.valid).1 has) c.if-has_fingers.false;
-  free = λ cycle. not_both c.has_cycle.result (c.has_cycle.ensures.1 (subst HasCycle (sym (c.as_slice.ensures ∙ c.in_ok-add_end.ensures ∙ ap (λ ps. ps ++ above_end c.args.task.now.pins.now c.args.at.now.state) c.in_ok-all.ensures)) cycle)) c.if-has_cycle.false;
+  free = λ cycle. not_both _ (c.in_ok-ends_in_cycle.ensures.1 cycle) c.if-not-branch.true;
 }
+
+pub returns-then-branch-clause-no : goal.returns-then-branch-clause-no
+returns-then-branch-clause-no g c = λ e none. subst (λ ps. HasCycle (c.add_cycle.new.need ++ ps)) (c.as_slice-2.ensures ∙ c.in_ok-add_end.ensures ∙ ap (λ ps. ps ++ above_end c.args.task.now.pins.now c.args.at.now.state) c.new-new.ensures) (c.in_ok-add_cycle.ensures.cycle c.if-branch.true)
+
+pub returns-clause-adds : goal.returns-clause-adds
+returns-clause-adds g c = adds_on c.args.asked.now.pairs c.args.need.now c.add_cycle.new.need c.extend.new.self c.in_ok-add_cycle.ensures.adds
+    (adds_some c.args.asked.now.pairs c.add_cycle.new.need c.extend.new.self c.args.asked.now.pairs (c.in_ok-extend.ensures.ok ∙ ap (λ ps. c.add_cycle.new.need ++ ps) c.as_slice-3.ensures) (all_follow_self c.args.asked.now.pairs))
+
+pub returns-clause-no : goal.returns-clause-no
+returns-clause-no g c = λ e none. cycle_all c.args.asked.now.pairs c.add_cycle.new.need c.extend.new.self (above_end c.args.task.now.pins.now c.args.at.now.state) (c.in_ok-extend.ensures.ok ∙ ap (λ ps. c.add_cycle.new.need ++ ps) c.as_slice-3.ensures) (c.in_ok-ends_in_cycle.ensures.0 c.if-not-branch.false)

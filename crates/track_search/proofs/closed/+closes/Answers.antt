@@ -6,6 +6,7 @@ use Rattle.row_state.specs.Candidates.{IsNumbered}
 use Rattle.row_state.specs.Start.{columns_left}
 use Rattle.row_state.proofs.Calls.{fewer_after}
 use Rattle.row_state.proofs.Valid.{gates_are_nets}
+use Rattle.lemma_check.specs.Noted.{AreNoted}
 use Rattle.track_ways.specs.Certificate.{CoversAll}
 use Rattle.track_ways.specs.Paths.{EndsFit}
 use Rattle.row_cycles.proofs.Loops.{not_both}
@@ -40,13 +41,14 @@ pub loop-next-init : goal.loop-next-init
 loop-next-init g t c = (
   grown_same (g.B.RowBound.value c.args.task.now.bound.now) c.args.task.now.pins.now c.args.task.now.limit c.args.task.now.kinds.now c.args.task.now.gaps c.args.task.now.budget (columns_left c.args.task.now.kinds.now c.args.at.now.state) c.args.progress.now c.args.progress.now c.requires.kept refl,
   All-nil (WaysFail (g.B.RowBound.value c.args.task.now.bound.now) c.args.task.now.pins.now c.args.task.now.limit c.args.task.now.kinds.now c.args.progress.now.lemmas c.args.at.now.state c.args.allowed ([] ∷ [])),
+  c.requires.trails,
 )
 
 pub loop-next-preserved-in_default : goal.loop-next-preserved-in_default
 unfolding blank
 loop-next-preserved-in_default g t c =
     let fails : ColumnFails (g.B.RowBound.value c.args.task.now.bound.now) c.args.task.now.pins.now c.args.task.now.limit c.args.task.now.kinds.now c.state_ahead.new.progress.lemmas c.args.at.now.state c.args.allowed (get_or c.args.task.now.candidates.now c.loop-next.next-index blank).step = rw c.in_default.is at c.in_ok-ahead.ensures.none in
-    (grown_known (g.B.RowBound.value c.args.task.now.bound.now) c.args.task.now.pins.now c.args.task.now.limit c.args.task.now.kinds.now c.args.task.now.gaps c.args.task.now.budget (columns_left c.args.task.now.kinds.now c.args.at.now.state) c.args.progress.now c.loop-next.progress c.state_ahead.new.progress c.loop-next.invariant.0 c.in_ok-ahead.ensures.lemmas c.in_ok-ahead.ensures.kept.noted, column_fails (g.B.RowBound.value c.args.task.now.bound.now) c.args.task.now.pins.now c.args.task.now.limit c.args.task.now.kinds.now c.state_ahead.new.progress.lemmas c.args.at.now.state c.args.allowed ([] ∷ []) c.args.task.now.candidates.now c.loop-next.next-index blank c.loop-next-test.true (still_fail (g.B.RowBound.value c.args.task.now.bound.now) c.args.task.now.pins.now c.args.task.now.limit c.args.task.now.kinds.now c.loop-next.progress.lemmas c.state_ahead.new.progress.lemmas c.args.at.now.state c.args.allowed ([] ∷ []) (take c.loop-next.next-index c.args.task.now.candidates.now) c.in_ok-ahead.ensures.lemmas c.loop-next.invariant.1) fails)
+    (grown_known (g.B.RowBound.value c.args.task.now.bound.now) c.args.task.now.pins.now c.args.task.now.limit c.args.task.now.kinds.now c.args.task.now.gaps c.args.task.now.budget (columns_left c.args.task.now.kinds.now c.args.at.now.state) c.args.progress.now c.loop-next.progress c.state_ahead.new.progress c.loop-next.invariant.0 c.in_ok-ahead.ensures.lemmas c.in_ok-ahead.ensures.kept.noted, column_fails (g.B.RowBound.value c.args.task.now.bound.now) c.args.task.now.pins.now c.args.task.now.limit c.args.task.now.kinds.now c.state_ahead.new.progress.lemmas c.args.at.now.state c.args.allowed ([] ∷ []) c.args.task.now.candidates.now c.loop-next.next-index blank c.loop-next-test.true (still_fail (g.B.RowBound.value c.args.task.now.bound.now) c.args.task.now.pins.now c.args.task.now.limit c.args.task.now.kinds.now c.loop-next.progress.lemmas c.state_ahead.new.progress.lemmas c.args.at.now.state c.args.allowed ([] ∷ []) (take c.loop-next.next-index c.args.task.now.candidates.now) c.in_ok-ahead.ensures.lemmas c.loop-next.invariant.1) fails, c.in_ok-ahead.ensures.trails)
 
 pub closes-requires : goal.closes-requires
 unfolding blank
@@ -58,6 +60,7 @@ closes-requires g t c κs within =
     let ends : EndsFit c.args.task.now.kinds.now c.in-Some.ahead.state.state = subst (EndsFit c.args.task.now.kinds.now) (sym a.state) (ends_fit_after c.args.task.now.kinds.now c.args.at.now.state (get_or c.args.task.now.candidates.now c.loop-next.next-index blank).step (gates_are_nets c.args.task.now.kinds.now c.show_limits.ensures) c.requires.ends a.possible) in
     let gaps : c.in-Some.ahead.left ≤ c.args.task.now.gaps = omega (arith, a.left, c.requires.gaps) in
     let kept : IsKept (g.B.RowBound.value c.args.task.now.bound.now) c.args.task.now.pins.now c.args.task.now.limit c.args.task.now.kinds.now c.args.task.now.gaps c.args.task.now.budget c.state_ahead.new.progress = c.in_ok-ahead.ensures.kept in
+    let trails : AreNoted (g.B.RowBound.trails_of c.args.task.now.bound.now) c.args.task.now.kinds.now c.state_ahead.new.trails = c.in_ok-ahead.ensures.trails in
     search rules
 
 pub returns-then-not-closed-clause-grown : goal.returns-then-not-closed-clause-grown
@@ -91,6 +94,7 @@ loop-next-preserved g t c =
       All-more (WaysFail (g.B.RowBound.value c.args.task.now.bound.now) c.args.task.now.pins.now c.args.task.now.limit c.args.task.now.kinds.now c.closes.new.progress.lemmas c.args.at.now.state c.args.allowed ([] ∷ [])) c.args.task.now.candidates.now c.loop-next.next-index blank c.loop-next-test.true
           (ways_fail_more (g.B.RowBound.value c.args.task.now.bound.now) c.args.task.now.pins.now c.args.task.now.limit c.args.task.now.kinds.now c.state_ahead.new.progress.lemmas c.closes.new.progress.lemmas c.in-Ok.ensures.grown.more c.args.at.now.state c.args.allowed ([] ∷ []) (take c.loop-next.next-index c.args.task.now.candidates.now) c.in-Ok.ensures.grown.is (still_fail (g.B.RowBound.value c.args.task.now.bound.now) c.args.task.now.pins.now c.args.task.now.limit c.args.task.now.kinds.now c.loop-next.progress.lemmas c.state_ahead.new.progress.lemmas c.args.at.now.state c.args.allowed ([] ∷ []) (take c.loop-next.next-index c.args.task.now.candidates.now) c.in_ok-ahead.ensures.lemmas c.loop-next.invariant.1))
           (closed_fails (g.B.RowBound.value c.args.task.now.bound.now) c.args.task.now.pins.now c.args.task.now.limit c.args.task.now.kinds.now c.closes.new.progress.lemmas c.args.at.now.state c.args.allowed ([] ∷ []) (get_or c.args.task.now.candidates.now c.loop-next.next-index blank).step c.in-Some.ahead a any),
+      c.in-Ok.ensures.trails,
     )
 
 pub returns-in-Ok-keep_one-clause-grown : goal.returns-in-Ok-keep_one-clause-grown

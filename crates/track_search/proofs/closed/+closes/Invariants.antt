@@ -1,5 +1,6 @@
 use Rattle.std.proofs.Common.{[], ◌∷◌, All, take}
 use Rattle.row_state.specs.Start.{columns_left}
+use Rattle.lemma_check.specs.Noted.{AreNoted}
 use Rattle.track_search.specs.Visit.{IsGrown}
 use Rattle.track_search.proofs.Grown.{WaysFail}
 use Rattle.track_search.proofs.closed.+closes.Given as goal
@@ -11,3 +12,4 @@ abbrev pub invariant-loop-next : goal.invariant-loop-next
 invariant-loop-next g l =
     IsGrown (g.B.RowBound.value l.task.bound.now) l.task.pins.now l.task.limit l.task.kinds.now l.task.gaps l.task.budget (columns_left l.task.kinds.now l.at.state) l.fn.progress l.progress
     × All (WaysFail (g.B.RowBound.value l.task.bound.now) l.task.pins.now l.task.limit l.task.kinds.now l.progress.lemmas l.at.state l.allowed ([] ∷ [])) (take l.next-index l.next-items)
+    × AreNoted (g.B.RowBound.trails_of l.task.bound.now) l.task.kinds.now l.trails

@@ -6,7 +6,7 @@ use Rattle.row_state.specs.Candidates.{IsNumbered}
 use Rattle.row_state.specs.Start.{columns_left}
 use Rattle.row_state.proofs.Calls.{fewer_after}
 use Rattle.row_state.proofs.Valid.{gates_are_nets}
-use Rattle.track_ways.specs.Certificate.{CoversAll}
+use Rattle.lemma_check.specs.Noted.{AreNoted}
 use Rattle.track_ways.specs.Paths.{EndsFit}
 use Rattle.track_check.specs.Noted.{AreNotedAt, state_of}
 use Rattle.row_cycles.proofs.Noted.{noted_here}
@@ -14,7 +14,7 @@ use Rattle.track_search.specs.First.{IsFirstRouted}
 use Rattle.track_search.specs.Kept.{AreKept}
 use Rattle.track_search.specs.Visit.{AreBelow, AreCovered, AreFresh, AreTaken, AreWaysAt, ColumnFails, IsAhead, IsKept, kept_at}
 use Rattle.track_search.proofs.Found.{first_at_end, first_through}
-use Rattle.track_search.proofs.Grown.{WaysFail, ahead_fails, closed_fails, column_fails, grown_above, grown_known, grown_same, grown_through, kept_covers, kept_grown, kept_sound, kept_spent, still_fail, ways_fail_more}
+use Rattle.track_search.proofs.Grown.{WaysFail, ahead_fails, column_fails, grown_above, grown_on, grown_same, grown_through, kept_covers, kept_grown, kept_sound, kept_spent, ways_fail_more}
 use Rattle.track_search.proofs.Kept.{of_open, ways_below}
 use Rattle.track_search.proofs.Ways.{ends_fit_after, ways_after}
 use Rattle.track_search.proofs.descent.+visit.Goals as goal
@@ -35,87 +35,88 @@ pub loop-next-init : goal.loop-next-init
 loop-next-init g t c = (
   grown_same (g.B.RowBound.value c.args.task.now.bound.now) c.args.task.now.pins.now c.args.task.now.limit c.args.task.now.kinds.now c.args.task.now.gaps c.args.task.now.budget (columns_left c.args.task.now.kinds.now c.args.at.now.state) c.args.progress.now c.args.progress.now c.requires.kept refl,
   All-nil (WaysFail (g.B.RowBound.value c.args.task.now.bound.now) c.args.task.now.pins.now c.args.task.now.limit c.args.task.now.kinds.now c.args.progress.now.lemmas c.args.at.now.state c.args.allowed c.args.ways.now),
+  c.requires.trails,
 )
 
 pub loop-next-preserved-in_default : goal.loop-next-preserved-in_default
 unfolding blank
 loop-next-preserved-in_default g t c =
-    let fails : ColumnFails (g.B.RowBound.value c.args.task.now.bound.now) c.args.task.now.pins.now c.args.task.now.limit c.args.task.now.kinds.now c.state_ahead.new.progress.lemmas c.args.at.now.state c.args.allowed (get_or c.args.task.now.candidates.now c.loop-next.next-index blank).step = rw c.in_default.is at c.in_ok-ahead.ensures.none in
-    (grown_known (g.B.RowBound.value c.args.task.now.bound.now) c.args.task.now.pins.now c.args.task.now.limit c.args.task.now.kinds.now c.args.task.now.gaps c.args.task.now.budget (columns_left c.args.task.now.kinds.now c.args.at.now.state) c.args.progress.now c.loop-next.progress c.state_ahead.new.progress c.loop-next.invariant.0 c.in_ok-ahead.ensures.lemmas c.in_ok-ahead.ensures.kept.noted, column_fails (g.B.RowBound.value c.args.task.now.bound.now) c.args.task.now.pins.now c.args.task.now.limit c.args.task.now.kinds.now c.state_ahead.new.progress.lemmas c.args.at.now.state c.args.allowed c.args.ways.now c.args.task.now.candidates.now c.loop-next.next-index blank c.loop-next-test.true (still_fail (g.B.RowBound.value c.args.task.now.bound.now) c.args.task.now.pins.now c.args.task.now.limit c.args.task.now.kinds.now c.loop-next.progress.lemmas c.state_ahead.new.progress.lemmas c.args.at.now.state c.args.allowed c.args.ways.now (take c.loop-next.next-index c.args.task.now.candidates.now) c.in_ok-ahead.ensures.lemmas c.loop-next.invariant.1) fails)
-
-pub closes-requires-clause-ends : goal.closes-requires-clause-ends
-unfolding blank
-closes-requires-clause-ends g t c =
-    let a : IsAhead c.args.task.now.pins.now c.args.task.now.limit c.args.task.now.kinds.now c.args.at.now.state c.args.allowed (get_or c.args.task.now.candidates.now c.loop-next.next-index blank).step c.in-Some.ahead = rw c.in-Some.is at c.in_ok-ahead.ensures.some in
-    subst (EndsFit c.args.task.now.kinds.now) (sym a.state) (ends_fit_after c.args.task.now.kinds.now c.args.at.now.state (get_or c.args.task.now.candidates.now c.loop-next.next-index blank).step (gates_are_nets c.args.task.now.kinds.now c.show_limits.ensures) c.requires.ends a.possible)
-
-pub loop-next-preserved-then-closed : goal.loop-next-preserved-then-closed
-unfolding blank
-loop-next-preserved-then-closed g t c =
-    let a : IsAhead c.args.task.now.pins.now c.args.task.now.limit c.args.task.now.kinds.now c.args.at.now.state c.args.allowed (get_or c.args.task.now.candidates.now c.loop-next.next-index blank).step c.in-Some.ahead = rw c.in-Some.is at c.in_ok-ahead.ensures.some in
-    let fewer : columns_left c.args.task.now.kinds.now c.args.at.now.state ≡ columns_left c.args.task.now.kinds.now c.in-Some.ahead.state.state + 1 = fewer_after c.args.task.now.kinds.now c.args.at.now.state (get_or c.args.task.now.candidates.now c.loop-next.next-index blank).step c.show_limits.ensures a.possible ∙ ap (λ (z : State). columns_left c.args.task.now.kinds.now z + 1) (sym a.state) in
-    let any : Any (CoversAll c.in-Some.ahead.state.state c.in-Some.ahead.left) c.closes.new.progress.lemmas = c.in-Ok.ensures.closed c.if-closed.true in (
-      grown_through (g.B.RowBound.value c.args.task.now.bound.now) c.args.task.now.pins.now c.args.task.now.limit c.args.task.now.kinds.now c.args.task.now.gaps c.args.task.now.budget (columns_left c.args.task.now.kinds.now c.args.at.now.state) (columns_left c.args.task.now.kinds.now c.in-Some.ahead.state.state) c.args.progress.now c.state_ahead.new.progress c.closes.new.progress fewer (grown_known (g.B.RowBound.value c.args.task.now.bound.now) c.args.task.now.pins.now c.args.task.now.limit c.args.task.now.kinds.now c.args.task.now.gaps c.args.task.now.budget (columns_left c.args.task.now.kinds.now c.args.at.now.state) c.args.progress.now c.loop-next.progress c.state_ahead.new.progress c.loop-next.invariant.0 c.in_ok-ahead.ensures.lemmas c.in_ok-ahead.ensures.kept.noted) c.in-Ok.ensures.grown,
-      All-more (WaysFail (g.B.RowBound.value c.args.task.now.bound.now) c.args.task.now.pins.now c.args.task.now.limit c.args.task.now.kinds.now c.closes.new.progress.lemmas c.args.at.now.state c.args.allowed c.args.ways.now) c.args.task.now.candidates.now c.loop-next.next-index blank c.loop-next-test.true
-          (ways_fail_more (g.B.RowBound.value c.args.task.now.bound.now) c.args.task.now.pins.now c.args.task.now.limit c.args.task.now.kinds.now c.state_ahead.new.progress.lemmas c.closes.new.progress.lemmas c.in-Ok.ensures.grown.more c.args.at.now.state c.args.allowed c.args.ways.now (take c.loop-next.next-index c.args.task.now.candidates.now) c.in-Ok.ensures.grown.is (still_fail (g.B.RowBound.value c.args.task.now.bound.now) c.args.task.now.pins.now c.args.task.now.limit c.args.task.now.kinds.now c.loop-next.progress.lemmas c.state_ahead.new.progress.lemmas c.args.at.now.state c.args.allowed c.args.ways.now (take c.loop-next.next-index c.args.task.now.candidates.now) c.in_ok-ahead.ensures.lemmas c.loop-next.invariant.1))
-          (closed_fails (g.B.RowBound.value c.args.task.now.bound.now) c.args.task.now.pins.now c.args.task.now.limit c.args.task.now.kinds.now c.closes.new.progress.lemmas c.args.at.now.state c.args.allowed c.args.ways.now (get_or c.args.task.now.candidates.now c.loop-next.next-index blank).step c.in-Some.ahead a any),
+    let fails : ColumnFails (g.B.RowBound.value c.args.task.now.bound.now) c.args.task.now.pins.now c.args.task.now.limit c.args.task.now.kinds.now c.open_ahead.new.progress.lemmas c.args.at.now.state c.args.allowed (get_or c.args.task.now.candidates.now c.loop-next.next-index blank).step = rw c.in_default.is at c.in-Ok.ensures.none in (
+      grown_on (g.B.RowBound.value c.args.task.now.bound.now) c.args.task.now.pins.now c.args.task.now.limit c.args.task.now.kinds.now c.args.task.now.gaps c.args.task.now.budget (columns_left c.args.task.now.kinds.now c.args.at.now.state) c.args.progress.now c.loop-next.progress c.open_ahead.new.progress c.loop-next.invariant.0 c.in-Ok.ensures.grown,
+      column_fails (g.B.RowBound.value c.args.task.now.bound.now) c.args.task.now.pins.now c.args.task.now.limit c.args.task.now.kinds.now c.open_ahead.new.progress.lemmas c.args.at.now.state c.args.allowed c.args.ways.now c.args.task.now.candidates.now c.loop-next.next-index blank c.loop-next-test.true
+          (ways_fail_more (g.B.RowBound.value c.args.task.now.bound.now) c.args.task.now.pins.now c.args.task.now.limit c.args.task.now.kinds.now c.loop-next.progress.lemmas c.open_ahead.new.progress.lemmas c.in-Ok.ensures.grown.more c.args.at.now.state c.args.allowed c.args.ways.now (take c.loop-next.next-index c.args.task.now.candidates.now) c.in-Ok.ensures.grown.is c.loop-next.invariant.1) fails,
+      c.in-Ok.ensures.trails,
     )
+
+pub onward_ways-requires-clause-valid : goal.onward_ways-requires-clause-valid
+unfolding blank
+onward_ways-requires-clause-valid g t c =
+    let a : IsAhead c.args.task.now.pins.now c.args.task.now.limit c.args.task.now.kinds.now c.args.at.now.state c.args.allowed (get_or c.args.task.now.candidates.now c.loop-next.next-index blank).step c.in-Some.ahead = rw c.in-Some.is at c.in-Ok.ensures.some in
+    a.numbered.valid
+
+pub onward_ways-requires-clause-after : goal.onward_ways-requires-clause-after
+unfolding blank
+onward_ways-requires-clause-after g t c =
+    let a : IsAhead c.args.task.now.pins.now c.args.task.now.limit c.args.task.now.kinds.now c.args.at.now.state c.args.allowed (get_or c.args.task.now.candidates.now c.loop-next.next-index blank).step c.in-Some.ahead = rw c.in-Some.is at c.in-Ok.ensures.some in
+    a.state
 
 pub onward_ways-requires-clause-noted : goal.onward_ways-requires-clause-noted
 unfolding blank
 onward_ways-requires-clause-noted g t c =
-    let a : IsAhead c.args.task.now.pins.now c.args.task.now.limit c.args.task.now.kinds.now c.args.at.now.state c.args.allowed (get_or c.args.task.now.candidates.now c.loop-next.next-index blank).step c.in-Some.ahead = rw c.in-Some.is at c.in_ok-ahead.ensures.some in
-    let here : AreNotedAt c.closes.new.progress.lemmas c.closes.new.progress.places c.in-Some.ahead.state = noted_here state_of c.args.task.now.kinds.now c.closes.new.progress.lemmas c.closes.new.progress.places c.in-Some.ahead.state a.numbered.code c.in-Ok.ensures.grown.kept.noted.places in
-    subst (λ ls. AreNotedAt ls c.noted.result.places.now c.in-Some.ahead.state) (sym c.noted.ensures.lemmas) (subst (λ ps. AreNotedAt c.closes.new.progress.lemmas ps c.in-Some.ahead.state) (sym c.noted.ensures.places) here)
+    let a : IsAhead c.args.task.now.pins.now c.args.task.now.limit c.args.task.now.kinds.now c.args.at.now.state c.args.allowed (get_or c.args.task.now.candidates.now c.loop-next.next-index blank).step c.in-Some.ahead = rw c.in-Some.is at c.in-Ok.ensures.some in
+    let here : AreNotedAt c.open_ahead.new.progress.lemmas c.open_ahead.new.progress.places c.in-Some.ahead.state = noted_here state_of c.args.task.now.kinds.now c.open_ahead.new.progress.lemmas c.open_ahead.new.progress.places c.in-Some.ahead.state a.numbered.code c.in-Ok.ensures.grown.kept.noted.places in
+    subst (λ ls. AreNotedAt ls c.noted.result.places.now c.in-Some.ahead.state) (sym c.noted.ensures.lemmas) (subst (λ ps. AreNotedAt c.open_ahead.new.progress.lemmas ps c.in-Some.ahead.state) (sym c.noted.ensures.places) here)
 
 pub visit-requires : goal.visit-requires
 unfolding blank
 visit-requires g t c κs within =
-    let a : IsAhead c.args.task.now.pins.now c.args.task.now.limit c.args.task.now.kinds.now c.args.at.now.state c.args.allowed (get_or c.args.task.now.candidates.now c.loop-next.next-index blank).step c.in-Some.ahead = rw c.in-Some.is at c.in_ok-ahead.ensures.some in
+    let a : IsAhead c.args.task.now.pins.now c.args.task.now.limit c.args.task.now.kinds.now c.args.at.now.state c.args.allowed (get_or c.args.task.now.candidates.now c.loop-next.next-index blank).step c.in-Some.ahead = rw c.in-Some.is at c.in-Ok.ensures.some in
     let fewer : columns_left c.args.task.now.kinds.now c.args.at.now.state ≡ columns_left c.args.task.now.kinds.now c.in-Some.ahead.state.state + 1 = fewer_after c.args.task.now.kinds.now c.args.at.now.state (get_or c.args.task.now.candidates.now c.loop-next.next-index blank).step c.show_limits.ensures a.possible ∙ ap (λ (z : State). columns_left c.args.task.now.kinds.now z + 1) (sym a.state) in
     let less : columns_left c.args.task.now.kinds.now c.in-Some.ahead.state.state < columns_left c.args.task.now.kinds.now c.args.at.now.state = omega (arith, fewer) in
     let numbered : IsNumbered c.args.task.now.kinds.now c.in-Some.ahead.state = a.numbered in
     let ends : EndsFit c.args.task.now.kinds.now c.in-Some.ahead.state.state = subst (EndsFit c.args.task.now.kinds.now) (sym a.state) (ends_fit_after c.args.task.now.kinds.now c.args.at.now.state (get_or c.args.task.now.candidates.now c.loop-next.next-index blank).step (gates_are_nets c.args.task.now.kinds.now c.show_limits.ensures) c.requires.ends a.possible) in
     let ways : AreWaysAt c.args.task.now.pins.now c.args.task.now.kinds.now c.in-Some.ahead.state.state c.in_ok-onward.onward = subst (λ z. AreWaysAt c.args.task.now.pins.now c.args.task.now.kinds.now z c.in_ok-onward.onward) (sym a.state) (ways_after c.args.task.now.pins.now c.args.task.now.limit c.args.task.now.kinds.now c.args.at.now.state (get_or c.args.task.now.candidates.now c.loop-next.next-index blank).step c.args.ways.now c.in_ok-onward.onward c.show_limits.ensures c.requires.numbered.valid c.requires.ends a.possible c.requires.ways c.in_ok-onward.ensures.from) in
     let below : All (AreBelow c.args.task.now.limit) c.in_ok-onward.onward = ways_below c.args.task.now.pins.now c.args.task.now.limit c.args.task.now.kinds.now c.args.at.now.state (get_or c.args.task.now.candidates.now c.loop-next.next-index blank).step c.args.ways.now c.in_ok-onward.onward c.requires.below c.in_ok-onward.ensures.from in
-    let fresh : AreFresh c.closes.new.progress.lemmas c.in-Some.ahead.state.state c.in-Some.ahead.left c.in_ok-onward.onward = subst (λ ls. AreFresh ls c.in-Some.ahead.state.state c.in-Some.ahead.left c.in_ok-onward.onward) c.noted.ensures.lemmas c.in_ok-onward.ensures.fresh in
+    let fresh : AreFresh c.open_ahead.new.progress.lemmas c.in-Some.ahead.state.state c.in-Some.ahead.left c.in_ok-onward.onward = subst (λ ls. AreFresh ls c.in-Some.ahead.state.state c.in-Some.ahead.left c.in_ok-onward.onward) c.noted.ensures.lemmas c.in_ok-onward.ensures.fresh in
     let gaps : c.in-Some.ahead.left ≤ c.args.task.now.gaps = omega (arith, a.left, c.requires.gaps) in
-    let kept : IsKept (g.B.RowBound.value c.args.task.now.bound.now) c.args.task.now.pins.now c.args.task.now.limit c.args.task.now.kinds.now c.args.task.now.gaps c.args.task.now.budget c.closes.new.progress = c.in-Ok.ensures.grown.kept in
+    let kept : IsKept (g.B.RowBound.value c.args.task.now.bound.now) c.args.task.now.pins.now c.args.task.now.limit c.args.task.now.kinds.now c.args.task.now.gaps c.args.task.now.budget c.open_ahead.new.progress = c.in-Ok.ensures.grown.kept in
+    let trails : AreNoted (g.B.RowBound.trails_of c.args.task.now.bound.now) c.args.task.now.kinds.now c.open_ahead.new.trails = c.in-Ok.ensures.trails in
     search rules
 
 pub returns-in-Some-tried-clause-grown : goal.returns-in-Some-tried-clause-grown
 unfolding blank
 returns-in-Some-tried-clause-grown g t c =
-    let a : IsAhead c.args.task.now.pins.now c.args.task.now.limit c.args.task.now.kinds.now c.args.at.now.state c.args.allowed (get_or c.args.task.now.candidates.now c.loop-next.next-index blank).step c.in-Some.ahead = rw c.in-Some.is at c.in_ok-ahead.ensures.some in
+    let a : IsAhead c.args.task.now.pins.now c.args.task.now.limit c.args.task.now.kinds.now c.args.at.now.state c.args.allowed (get_or c.args.task.now.candidates.now c.loop-next.next-index blank).step c.in-Some.ahead = rw c.in-Some.is at c.in-Ok.ensures.some in
     let fewer : columns_left c.args.task.now.kinds.now c.args.at.now.state ≡ columns_left c.args.task.now.kinds.now c.in-Some.ahead.state.state + 1 = fewer_after c.args.task.now.kinds.now c.args.at.now.state (get_or c.args.task.now.candidates.now c.loop-next.next-index blank).step c.show_limits.ensures a.possible ∙ ap (λ (z : State). columns_left c.args.task.now.kinds.now z + 1) (sym a.state) in
-    grown_above (g.B.RowBound.value c.args.task.now.bound.now) c.args.task.now.pins.now c.args.task.now.limit c.args.task.now.kinds.now c.args.task.now.gaps c.args.task.now.budget (columns_left c.args.task.now.kinds.now c.args.at.now.state) (columns_left c.args.task.now.kinds.now c.in-Some.ahead.state.state) c.args.progress.now c.closes.new.progress c.visit.new.progress fewer
-    (grown_through (g.B.RowBound.value c.args.task.now.bound.now) c.args.task.now.pins.now c.args.task.now.limit c.args.task.now.kinds.now c.args.task.now.gaps c.args.task.now.budget (columns_left c.args.task.now.kinds.now c.args.at.now.state) (columns_left c.args.task.now.kinds.now c.in-Some.ahead.state.state) c.args.progress.now c.state_ahead.new.progress c.closes.new.progress fewer (grown_known (g.B.RowBound.value c.args.task.now.bound.now) c.args.task.now.pins.now c.args.task.now.limit c.args.task.now.kinds.now c.args.task.now.gaps c.args.task.now.budget (columns_left c.args.task.now.kinds.now c.args.at.now.state) c.args.progress.now c.loop-next.progress c.state_ahead.new.progress c.loop-next.invariant.0 c.in_ok-ahead.ensures.lemmas c.in_ok-ahead.ensures.kept.noted) c.in-Ok.ensures.grown) c.in-Ok-visit.ensures.grown
+    grown_above (g.B.RowBound.value c.args.task.now.bound.now) c.args.task.now.pins.now c.args.task.now.limit c.args.task.now.kinds.now c.args.task.now.gaps c.args.task.now.budget (columns_left c.args.task.now.kinds.now c.args.at.now.state) (columns_left c.args.task.now.kinds.now c.in-Some.ahead.state.state) c.args.progress.now c.open_ahead.new.progress c.visit.new.progress fewer
+    (grown_on (g.B.RowBound.value c.args.task.now.bound.now) c.args.task.now.pins.now c.args.task.now.limit c.args.task.now.kinds.now c.args.task.now.gaps c.args.task.now.budget (columns_left c.args.task.now.kinds.now c.args.at.now.state) c.args.progress.now c.loop-next.progress c.open_ahead.new.progress c.loop-next.invariant.0 c.in-Ok.ensures.grown) c.in-Ok-visit.ensures.grown
 
 pub returns-in-Some-tried-clause-first : goal.returns-in-Some-tried-clause-first
 unfolding blank
 returns-in-Some-tried-clause-first g t c =
-    let a : IsAhead c.args.task.now.pins.now c.args.task.now.limit c.args.task.now.kinds.now c.args.at.now.state c.args.allowed (get_or c.args.task.now.candidates.now c.loop-next.next-index blank).step c.in-Some.ahead = rw c.in-Some.is at c.in_ok-ahead.ensures.some in
+    let a : IsAhead c.args.task.now.pins.now c.args.task.now.limit c.args.task.now.kinds.now c.args.at.now.state c.args.allowed (get_or c.args.task.now.candidates.now c.loop-next.next-index blank).step c.in-Some.ahead = rw c.in-Some.is at c.in-Ok.ensures.some in
     let first : IsFirstRouted c.args.task.now.pins.now c.args.task.now.limit c.args.task.now.kinds.now c.in-Some.ahead.state.state c.in_ok-onward.onward c.in-Some.ahead.left (reverse c.in-Some-tried.rest) = rw c.in-Some-tried.is at c.in-Ok-visit.ensures.first in
-    let taken : All (AreTaken c.args.task.now.pins.now c.args.task.now.limit c.args.task.now.kinds.now c.closes.new.progress.lemmas c.args.at.now.state (get_or c.args.task.now.candidates.now c.loop-next.next-index blank).step c.in-Some.ahead.state.state c.in-Some.ahead.left c.in_ok-onward.onward) c.args.ways.now = subst (λ ls. All (AreTaken c.args.task.now.pins.now c.args.task.now.limit c.args.task.now.kinds.now ls c.args.at.now.state (get_or c.args.task.now.candidates.now c.loop-next.next-index blank).step c.in-Some.ahead.state.state c.in-Some.ahead.left c.in_ok-onward.onward) c.args.ways.now) c.noted.ensures.lemmas c.in_ok-onward.ensures.taken in
-    first_through (g.B.RowBound.value c.args.task.now.bound.now) c.args.task.now.pins.now c.args.task.now.limit c.args.task.now.kinds.now c.closes.new.progress.lemmas c.args.at.now.state c.args.ways.now c.in_ok-onward.onward c.args.allowed c.in-Some.ahead c.args.task.now.candidates.now c.loop-next.next-index blank c.in-Some-tried.rest c.push.new.self c.show_limits.ensures (λ row s valid. g.met.B.RowBound.holds c.args.task.now.bound.now row s c.args.task.now.kinds.now c.show_limits.ensures valid) c.in-Ok.ensures.grown.kept.kept.justified c.requires.numbered.valid c.requires.candidates c.requires.ways
+    let taken : All (AreTaken c.args.task.now.pins.now c.args.task.now.limit c.args.task.now.kinds.now c.open_ahead.new.progress.lemmas c.args.at.now.state (get_or c.args.task.now.candidates.now c.loop-next.next-index blank).step c.in-Some.ahead.state.state c.in-Some.ahead.left c.in_ok-onward.onward) c.args.ways.now = subst (λ ls. All (AreTaken c.args.task.now.pins.now c.args.task.now.limit c.args.task.now.kinds.now ls c.args.at.now.state (get_or c.args.task.now.candidates.now c.loop-next.next-index blank).step c.in-Some.ahead.state.state c.in-Some.ahead.left c.in_ok-onward.onward) c.args.ways.now) c.noted.ensures.lemmas c.in_ok-onward.ensures.taken in
+    first_through (g.B.RowBound.value c.args.task.now.bound.now) c.args.task.now.pins.now c.args.task.now.limit c.args.task.now.kinds.now c.open_ahead.new.progress.lemmas c.args.at.now.state c.args.ways.now c.in_ok-onward.onward c.args.allowed c.in-Some.ahead c.args.task.now.candidates.now c.loop-next.next-index blank c.in-Some-tried.rest c.push.new.self c.show_limits.ensures (λ row s valid. g.met.B.RowBound.holds c.args.task.now.bound.now row s c.args.task.now.kinds.now c.show_limits.ensures valid) c.in-Ok.ensures.grown.kept.kept.justified c.requires.numbered.valid c.requires.candidates c.requires.ways
     (ways_after c.args.task.now.pins.now c.args.task.now.limit c.args.task.now.kinds.now c.args.at.now.state (get_or c.args.task.now.candidates.now c.loop-next.next-index blank).step c.args.ways.now c.in_ok-onward.onward c.show_limits.ensures c.requires.numbered.valid c.requires.ends a.possible c.requires.ways c.in_ok-onward.ensures.from)
     c.loop-next-test.true
-    (ways_fail_more (g.B.RowBound.value c.args.task.now.bound.now) c.args.task.now.pins.now c.args.task.now.limit c.args.task.now.kinds.now c.state_ahead.new.progress.lemmas c.closes.new.progress.lemmas c.in-Ok.ensures.grown.more c.args.at.now.state c.args.allowed c.args.ways.now (take c.loop-next.next-index c.args.task.now.candidates.now) c.in-Ok.ensures.grown.is (still_fail (g.B.RowBound.value c.args.task.now.bound.now) c.args.task.now.pins.now c.args.task.now.limit c.args.task.now.kinds.now c.loop-next.progress.lemmas c.state_ahead.new.progress.lemmas c.args.at.now.state c.args.allowed c.args.ways.now (take c.loop-next.next-index c.args.task.now.candidates.now) c.in_ok-ahead.ensures.lemmas c.loop-next.invariant.1))
+    (ways_fail_more (g.B.RowBound.value c.args.task.now.bound.now) c.args.task.now.pins.now c.args.task.now.limit c.args.task.now.kinds.now c.loop-next.progress.lemmas c.open_ahead.new.progress.lemmas c.in-Ok.ensures.grown.more c.args.at.now.state c.args.allowed c.args.ways.now (take c.loop-next.next-index c.args.task.now.candidates.now) c.in-Ok.ensures.grown.is c.loop-next.invariant.1)
     a taken c.in_ok-onward.ensures.from first c.in_ok-push.ensures.ok
 
 pub loop-next-preserved : goal.loop-next-preserved
 unfolding blank
 loop-next-preserved g t c =
-    let a : IsAhead c.args.task.now.pins.now c.args.task.now.limit c.args.task.now.kinds.now c.args.at.now.state c.args.allowed (get_or c.args.task.now.candidates.now c.loop-next.next-index blank).step c.in-Some.ahead = rw c.in-Some.is at c.in_ok-ahead.ensures.some in
+    let a : IsAhead c.args.task.now.pins.now c.args.task.now.limit c.args.task.now.kinds.now c.args.at.now.state c.args.allowed (get_or c.args.task.now.candidates.now c.loop-next.next-index blank).step c.in-Some.ahead = rw c.in-Some.is at c.in-Ok.ensures.some in
     let fewer : columns_left c.args.task.now.kinds.now c.args.at.now.state ≡ columns_left c.args.task.now.kinds.now c.in-Some.ahead.state.state + 1 = fewer_after c.args.task.now.kinds.now c.args.at.now.state (get_or c.args.task.now.candidates.now c.loop-next.next-index blank).step c.show_limits.ensures a.possible ∙ ap (λ (z : State). columns_left c.args.task.now.kinds.now z + 1) (sym a.state) in
     let covered : AreCovered c.visit.new.progress.lemmas c.in-Some.ahead.state.state c.in-Some.ahead.left c.in_ok-onward.onward = rw c.in_default-tried.is at c.in-Ok-visit.ensures.none in
-    let taken : All (AreTaken c.args.task.now.pins.now c.args.task.now.limit c.args.task.now.kinds.now c.closes.new.progress.lemmas c.args.at.now.state (get_or c.args.task.now.candidates.now c.loop-next.next-index blank).step c.in-Some.ahead.state.state c.in-Some.ahead.left c.in_ok-onward.onward) c.args.ways.now = subst (λ ls. All (AreTaken c.args.task.now.pins.now c.args.task.now.limit c.args.task.now.kinds.now ls c.args.at.now.state (get_or c.args.task.now.candidates.now c.loop-next.next-index blank).step c.in-Some.ahead.state.state c.in-Some.ahead.left c.in_ok-onward.onward) c.args.ways.now) c.noted.ensures.lemmas c.in_ok-onward.ensures.taken in (
-      grown_through (g.B.RowBound.value c.args.task.now.bound.now) c.args.task.now.pins.now c.args.task.now.limit c.args.task.now.kinds.now c.args.task.now.gaps c.args.task.now.budget (columns_left c.args.task.now.kinds.now c.args.at.now.state) (columns_left c.args.task.now.kinds.now c.in-Some.ahead.state.state) c.args.progress.now c.closes.new.progress c.visit.new.progress fewer
-          (grown_through (g.B.RowBound.value c.args.task.now.bound.now) c.args.task.now.pins.now c.args.task.now.limit c.args.task.now.kinds.now c.args.task.now.gaps c.args.task.now.budget (columns_left c.args.task.now.kinds.now c.args.at.now.state) (columns_left c.args.task.now.kinds.now c.in-Some.ahead.state.state) c.args.progress.now c.state_ahead.new.progress c.closes.new.progress fewer (grown_known (g.B.RowBound.value c.args.task.now.bound.now) c.args.task.now.pins.now c.args.task.now.limit c.args.task.now.kinds.now c.args.task.now.gaps c.args.task.now.budget (columns_left c.args.task.now.kinds.now c.args.at.now.state) c.args.progress.now c.loop-next.progress c.state_ahead.new.progress c.loop-next.invariant.0 c.in_ok-ahead.ensures.lemmas c.in_ok-ahead.ensures.kept.noted) c.in-Ok.ensures.grown) c.in-Ok-visit.ensures.grown,
+    let taken : All (AreTaken c.args.task.now.pins.now c.args.task.now.limit c.args.task.now.kinds.now c.open_ahead.new.progress.lemmas c.args.at.now.state (get_or c.args.task.now.candidates.now c.loop-next.next-index blank).step c.in-Some.ahead.state.state c.in-Some.ahead.left c.in_ok-onward.onward) c.args.ways.now = subst (λ ls. All (AreTaken c.args.task.now.pins.now c.args.task.now.limit c.args.task.now.kinds.now ls c.args.at.now.state (get_or c.args.task.now.candidates.now c.loop-next.next-index blank).step c.in-Some.ahead.state.state c.in-Some.ahead.left c.in_ok-onward.onward) c.args.ways.now) c.noted.ensures.lemmas c.in_ok-onward.ensures.taken in (
+      grown_through (g.B.RowBound.value c.args.task.now.bound.now) c.args.task.now.pins.now c.args.task.now.limit c.args.task.now.kinds.now c.args.task.now.gaps c.args.task.now.budget (columns_left c.args.task.now.kinds.now c.args.at.now.state) (columns_left c.args.task.now.kinds.now c.in-Some.ahead.state.state) c.args.progress.now c.open_ahead.new.progress c.visit.new.progress fewer
+          (grown_on (g.B.RowBound.value c.args.task.now.bound.now) c.args.task.now.pins.now c.args.task.now.limit c.args.task.now.kinds.now c.args.task.now.gaps c.args.task.now.budget (columns_left c.args.task.now.kinds.now c.args.at.now.state) c.args.progress.now c.loop-next.progress c.open_ahead.new.progress c.loop-next.invariant.0 c.in-Ok.ensures.grown) c.in-Ok-visit.ensures.grown,
       All-more (WaysFail (g.B.RowBound.value c.args.task.now.bound.now) c.args.task.now.pins.now c.args.task.now.limit c.args.task.now.kinds.now c.visit.new.progress.lemmas c.args.at.now.state c.args.allowed c.args.ways.now) c.args.task.now.candidates.now c.loop-next.next-index blank c.loop-next-test.true
-          (ways_fail_more (g.B.RowBound.value c.args.task.now.bound.now) c.args.task.now.pins.now c.args.task.now.limit c.args.task.now.kinds.now c.closes.new.progress.lemmas c.visit.new.progress.lemmas c.in-Ok-visit.ensures.grown.more c.args.at.now.state c.args.allowed c.args.ways.now (take c.loop-next.next-index c.args.task.now.candidates.now) c.in-Ok-visit.ensures.grown.is
-          (ways_fail_more (g.B.RowBound.value c.args.task.now.bound.now) c.args.task.now.pins.now c.args.task.now.limit c.args.task.now.kinds.now c.state_ahead.new.progress.lemmas c.closes.new.progress.lemmas c.in-Ok.ensures.grown.more c.args.at.now.state c.args.allowed c.args.ways.now (take c.loop-next.next-index c.args.task.now.candidates.now) c.in-Ok.ensures.grown.is (still_fail (g.B.RowBound.value c.args.task.now.bound.now) c.args.task.now.pins.now c.args.task.now.limit c.args.task.now.kinds.now c.loop-next.progress.lemmas c.state_ahead.new.progress.lemmas c.args.at.now.state c.args.allowed c.args.ways.now (take c.loop-next.next-index c.args.task.now.candidates.now) c.in_ok-ahead.ensures.lemmas c.loop-next.invariant.1)))
-          (ahead_fails (g.B.RowBound.value c.args.task.now.bound.now) c.args.task.now.pins.now c.args.task.now.limit c.args.task.now.kinds.now c.closes.new.progress.lemmas c.visit.new.progress.lemmas c.in-Ok-visit.ensures.grown.more c.args.at.now.state c.args.allowed c.args.ways.now c.in_ok-onward.onward (get_or c.args.task.now.candidates.now c.loop-next.next-index blank).step c.in-Some.ahead c.in-Ok-visit.ensures.grown.is a taken covered),
+          (ways_fail_more (g.B.RowBound.value c.args.task.now.bound.now) c.args.task.now.pins.now c.args.task.now.limit c.args.task.now.kinds.now c.open_ahead.new.progress.lemmas c.visit.new.progress.lemmas c.in-Ok-visit.ensures.grown.more c.args.at.now.state c.args.allowed c.args.ways.now (take c.loop-next.next-index c.args.task.now.candidates.now) c.in-Ok-visit.ensures.grown.is
+          (ways_fail_more (g.B.RowBound.value c.args.task.now.bound.now) c.args.task.now.pins.now c.args.task.now.limit c.args.task.now.kinds.now c.loop-next.progress.lemmas c.open_ahead.new.progress.lemmas c.in-Ok.ensures.grown.more c.args.at.now.state c.args.allowed c.args.ways.now (take c.loop-next.next-index c.args.task.now.candidates.now) c.in-Ok.ensures.grown.is c.loop-next.invariant.1))
+          (ahead_fails (g.B.RowBound.value c.args.task.now.bound.now) c.args.task.now.pins.now c.args.task.now.limit c.args.task.now.kinds.now c.open_ahead.new.progress.lemmas c.visit.new.progress.lemmas c.in-Ok-visit.ensures.grown.more c.args.at.now.state c.args.allowed c.args.ways.now c.in_ok-onward.onward (get_or c.args.task.now.candidates.now c.loop-next.next-index blank).step c.in-Some.ahead c.in-Ok-visit.ensures.grown.is a taken covered),
+      c.in-Ok-visit.ensures.trails,
     )
 
 pub returns-in-Ok-keep-clause-grown : goal.returns-in-Ok-keep-clause-grown

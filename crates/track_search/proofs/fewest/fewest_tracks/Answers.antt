@@ -10,6 +10,7 @@ try_limits-requires g c = record {
   all = subst (λ s. AreTouches c.args.kinds.now s c.touches-all.result) c.in_ok-first.ensures.state c.touches-all.ensures.touches;
   state = c.in_ok-first.ensures.state;
   numbered = c.in_ok-first.ensures.numbered;
+  trails = c.new-trails.ensures (g.B.RowBound.trails_of c.args.bound.now) c.args.kinds.now;
 }
 
 pub returns-clause-take : goal.returns-clause-take

@@ -23,4 +23,5 @@ loop-limit-preserved g c =
       prove_more (g.B.RowBound.value c.args.task.now.bound.now) c.args.task.now.pins.now c.loop-limit.limit c.args.task.now.kinds.now c.args.task.now.gaps c.in-Refuted.next certified,
       within_most c.args.task.now.kinds.now c.loop-limit.limit c.args.most c.args.task.now.gaps c.in-Refuted.next (omega (arith, c.loop-limit-test.true)) kept.0.within,
       one_tried (g.B.RowBound.value c.args.task.now.bound.now) c.args.task.now.pins.now c.args.task.now.kinds.now c.args.task.now.gaps c.loop-limit.limit c.loop-limit.budget (c.loop-limit.budget - c.len.result) c.args.task.now.budget c.loop-limit.lemmas c.in-Refuted.next c.loop-limit.invariant.2 kept.0 (omega (arith, kept.1, c.len.ensures)),
+      c.in_ok-row.ensures.trails,
     )

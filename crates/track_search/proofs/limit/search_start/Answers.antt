@@ -18,6 +18,7 @@ visit-requires g c = record {
   below = start_below c.args.task.now.limit c.in_ok-ways.ways c.in_ok-ways.ensures;
   fresh = start_fresh c.args.progress.now.lemmas c.args.first.now.state c.args.task.now.gaps c.in_ok-ways.ways c.requires.lemmas c.in_ok-ways.ensures;
   gaps = omega arith;
+  trails = c.requires.trails;
   kept = start_kept (g.B.RowBound.value c.args.task.now.bound.now) c.args.task.now.pins.now c.args.task.now.limit c.args.task.now.kinds.now c.args.task.now.gaps c.args.task.now.budget c.args.progress.now c.requires.lemmas c.requires.noted;
 }
 

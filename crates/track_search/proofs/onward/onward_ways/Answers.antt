@@ -1,4 +1,7 @@
-use Rattle.std.proofs.Common.{All, subst, ◌∙◌}
+use Rattle.std.proofs.Common.{◌≡◌, All, subst, ◌∙◌}
+use Rattle.row_state.specs.declared.state.State.{State}
+use Rattle.track_ways.specs.States.{is_still_ahead}
+use Rattle.track_ways.specs.Tables.{marked}
 use Rattle.track_search.specs.Visit.{AreTaken}
 use Rattle.row_cycles.proofs.Loops.{all_end}
 use Rattle.track_search.proofs.Lists.{fresh_none, onward_more, onward_none}
@@ -18,3 +21,6 @@ pub returns-clause-taken : goal.returns-clause-taken
 returns-clause-taken g c =
     subst (All (AreTaken c.args.task.now.pins.now c.args.task.now.limit c.args.task.now.kinds.now c.args.known.now.lemmas.now c.args.state.now c.args.next.now.step c.args.ahead.now.state.state c.args.ahead.now.left c.loop-way.onward)) c.as_slice-way-items.ensures
     (all_end (AreTaken c.args.task.now.pins.now c.args.task.now.limit c.args.task.now.kinds.now c.args.known.now.lemmas.now c.args.state.now c.args.next.now.step c.args.ahead.now.state.state c.args.ahead.now.left c.loop-way.onward) c.as_slice-way-items.result.now c.loop-way.way-index c.loop-way-test.false c.loop-way.invariant.0.0)
+
+pub step_ways-requires-clause-behind : goal.step_ways-requires-clause-behind
+step_ways-requires-clause-behind g c = subst (λ (z : State). marked c.nets_after-nets.result ≡ is_still_ahead c.args.task.now.kinds.now z) c.requires.after c.nets_after-nets.ensures
