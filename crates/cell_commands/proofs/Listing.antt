@@ -71,7 +71,7 @@ solved_too value k f budget log row other best kinds some (j, of_j, some_j, solv
 
 pub trails_accepted_too : (k : Kinds) (f : Fingers) (trails : TrailCertificate) (gaps : ℕ) (other : List Column) (best : Best) → AreKinds f k → AreSomeKinds k → IsAcceptedByTrails f trails gaps → IsArrangement other f → gaps_of other ≡ gaps → IsBestOf k other best → IsAcceptedByTrails f (trails_listing trails best) gaps
 trails_accepted_too k f trails gaps other best kinds some accepted arranges same is = record {
-  gates = record { order = accepted.gates.order; filled = accepted.gates.filled };
+  gates = record { order = accepted.gates.order; opened = accepted.gates.opened };
   justified = accepted.justified;
   passes = passes_by accepted.passes;
 }

@@ -18,7 +18,7 @@ use Rattle.trail_search.specs.Ended.{IsCertified as IsCertifiedByTrails, IsCrowd
 abbrev pub IsFoundByTrails : Inputs → List Column → TrailCertificate → Type 0
 IsFoundByTrails inputs row trails = IsTrailFound inputs.fingers inputs.tech.budget row trails
 
--- its lemmas are justified, and prove that many gaps of every row; the budget is spent, or no row has as few
+-- its lemmas are justified, and prove that many gaps of every row; the budget is spent
 abbrev pub IsOpenByTrails : Inputs → ℕ → TrailCertificate → Type 0
 IsOpenByTrails inputs proved trails = IsTrailSpent inputs.fingers inputs.tech.budget trails proved
 

@@ -1,10 +1,10 @@
--- The test of the gates decides whether the order and the filled gates are as asked.
+-- The test of the gates decides whether the order and the gates that are left open are as asked.
 use Rattle.std.specs.Prelude.{ℕ, ◌≡◌, ◌≢◌, ◌<◌, ◌==◌, ◌↔◌, ◌⊎◌, true, IsTrue, List, [], ◌∷◌, All, AllPairs, Contains}
 use Rattle.std.specs.Bool.{Decides}
 use Rattle.std.specs.List.{list_all, list_any}
 use Rattle.std.proofs.Common.{refl, sym, subst, arith, inl, inr}
 use Rattle.std.proofs.lemmas.Bool.{cases_Bool, cases_eq, eq-eqb, eqb-true}
-use Rattle.std.proofs.lemmas.Bool.Decides.{Decides-and, Decides-by_and, Decides-eqb, Decides-like, Decides-ltb, Decides-not, Decides-or}
+use Rattle.std.proofs.lemmas.Bool.Decides.{Decides-and, Decides-by_and, Decides-like, Decides-ltb, Decides-not, Decides-or}
 use Rattle.std.proofs.lemmas.List.Elements.{All-contains}
 use Rattle.std.proofs.lemmas.List.Kept.{AllPairs-cons}
 use Rattle.cell_num.specs.declared.net.NetNo.{NetNo}
@@ -16,8 +16,10 @@ use Rattle.cell_num.proofs.Pairs.{Some', count_there, none_counted, pairs_head, 
 use Rattle.trail_log.specs.declared.trails.TrailCertificate.{TrailCertificate}
 use Rattle.trail_state.specs.Choices.{is_on}
 use Rattle.trail_state.specs.Levels.{IsGate, IsOrder}
-use Rattle.trail_check.specs.Gates.{AreGates, HasHalfColumns}
-use Rattle.trail_check.specs.Tests.{are_filled, are_once, are_ordered, gates_test, has_gate, is_filled, is_gate, is_order}
+use Rattle.open_gates.proofs.Decided.{open_decides}
+use Rattle.trail_check.specs.Gates.{AreGates}
+use Rattle.trail_check.specs.Leveled.{open_of}
+use Rattle.trail_check.specs.Tests.{are_once, are_ordered, gates_test, has_gate, is_gate, is_order}
 
 -- ---- what a list of gates has
 
@@ -105,32 +107,6 @@ order_decides f order =
     gates : Decides (list_all (is_gate f) order) (All (λ (g : NetNo). IsGate f g.0) order)
     gates = Decides-by_and (is_gate f) (λ (g : NetNo). IsGate f g.0) (list_all (is_gate f)) (gate_decides f) refl (λ _ _. refl) order
 
--- ---- the filled gates
-
-abbrev IsFilled : Fingers → List NetNo → NetNo → Type 0
-IsFilled f fill gate = HasHalfColumns f gate.0 → Contains fill gate
-
-filled_decides : (f : Fingers) (fill : List NetNo) (x : Finger) → Decides (is_filled f fill x) (IsFilled f fill x.gate)
-filled_decides f fill x =
-    Decides-like _ either split (Decides-or _ _ (Decides-eqb (on_gate x.gate.0 f.p) (on_gate x.gate.0 f.n)) (has_decides fill x.gate))
-  where
-    either : (on_gate x.gate.0 f.p ≡ on_gate x.gate.0 f.n) ⊎ Contains fill x.gate → IsFilled f fill x.gate
-    either (inl even) uneven = absurd (uneven even)
-    either (inr there) uneven = there
-
-    split : IsFilled f fill x.gate → (on_gate x.gate.0 f.p ≡ on_gate x.gate.0 f.n) ⊎ Contains fill x.gate
-    split filled = elim (cases_eq (on_gate x.gate.0 f.p) (on_gate x.gate.0 f.n)) [ inl even ↦ inl even | inr uneven ↦ inr (filled uneven) ]
-
-all_filled : (f : Fingers) (fill : List NetNo) → Decides (are_filled f fill) ((gate : NetNo) → HasHalfColumns f gate.0 → Contains fill gate)
-all_filled f fill =
-    Decides-like _ (λ rows g uneven. each_gate (IsFilled f fill) f rows.0 rows.1 g (some g uneven) uneven) (λ filled. of_gates (IsFilled f fill) f (λ g is. filled g)) (Decides-and _ _ (row f.p) (row f.n))
-  where
-    some : (g : NetNo) → HasHalfColumns f g.0 → IsGate f g.0
-    some g uneven = omega (arith, uneven)
-
-    row : (fs : List Finger) → Decides (list_all (is_filled f fill) fs) (All (λ (x : Finger). IsFilled f fill x.gate) fs)
-    row fs = Decides-by_and (is_filled f fill) (λ (x : Finger). IsFilled f fill x.gate) (list_all (is_filled f fill)) (filled_decides f fill) refl (λ _ _. refl) fs
-
 pub gates_decide : (f : Fingers) (trails : TrailCertificate) → IsTrue (gates_test f trails) ↔ AreGates f trails
 gates_decide f trails =
-    Decides-like _ (λ both. record { order = both.0; filled = both.1 }) (λ are. (are.order, are.filled)) (Decides-and _ _ (order_decides f trails.order) (all_filled f trails.fill))
+    Decides-like _ (λ both. record { order = both.0; opened = both.1 }) (λ are. (are.order, are.opened)) (Decides-and _ _ (order_decides f trails.order) (open_decides f (open_of f trails)))

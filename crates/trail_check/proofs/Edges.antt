@@ -1,9 +1,8 @@
 -- The graph of edges, and the steps of a walk through them.
-use Rattle.std.proofs.Common.{ℕ, ◌≡◌, ◌+◌, ◌≤◌, ◌<◌, ◌==◌, Bool, true, false, if◌then◌else◌, leb, List, [], ◌∷◌, map}
-use Rattle.std.proofs.Common.{refl, sym, ap, subst, arith, ◌∙◌, inl, inr, All, IsPermutation, sum_by}
-use Rattle.std.proofs.lemmas.Bool.{cases_Bool, cases_eq, eq-eqb, le-leb, leb-false, leb-true, ne_eqb}
+use Rattle.std.proofs.Common.{ℕ, ◌≡◌, ◌+◌, ◌≤◌, ◌==◌, Bool, true, false, if◌then◌else◌, leb, List, [], ◌∷◌}
+use Rattle.std.proofs.Common.{refl, sym, ap, arith, ◌∙◌, inl, inr, All}
+use Rattle.std.proofs.lemmas.Bool.{cases_eq, eq-eqb, ne_eqb}
 use Rattle.std.proofs.lemmas.List.Elements.{All-cons, All-contains, All-head, All-nil, All-tail}
-use Rattle.std.proofs.lemmas.List.Sorted.{All-permutation, IsPermutation-sym}
 use Rattle.std.proofs.lemmas.List.Sums.{sum_by-cons}
 use Rattle.cell_num.proofs.Lists.{all_from_contains}
 use Rattle.row_state.specs.Chained.{chained_class, class_chained, least_le}
@@ -12,24 +11,12 @@ use Rattle.cell_num.specs.declared.finger.Finger.{Finger}
 use Rattle.trail_state.specs.declared.edge.Edge.{Edge}
 use Rattle.trail_state.specs.Edges.{edge_between}
 use Rattle.trail_state.proofs.Links.{finger_of, fingers_of}
+use Rattle.trail_state.proofs.Paired.{turned_edge}
 use Rattle.trail_state.proofs.Walks.{edges_of, ordered}
 use Rattle.trail_check.specs.Graph.{AreChained, class_of, degree}
 use Rattle.trail_check.proofs.Steps.{Step, bit, edges}
 use Rattle.trail_check.proofs.Steps as steps
 use Rattle.trail_check.proofs.Ends.{AreLabels}
-
--- an edge is the same from both its ends
-pub turned_edge : (l r : ℕ) → edge_between l r ≡ edge_between r l
-turned_edge l r = elim (cases_Bool (leb l r)) [
-  | inl low ↦ elim (cases_Bool (leb r l)) [
-    | inl also ↦ let same : l ≡ r =
-        omega (arith, leb-true l r low, leb-true r l also) in ap (λ v. edge_between l v) (sym same)
-        ∙ ap (λ v. edge_between v l) same
-    | inr high ↦ ap (λ b. ordered b l r) low ∙ sym (ap (λ b. ordered b r l) high)
-  ]
-  | inr high ↦ ap (λ b. ordered b l r) high
-      ∙ sym (ap (λ b. ordered b r l) (le-leb r l (omega (arith, leb-false l r high))))
-]
 
 -- the edges of a walk
 abbrev pub passed : List Step → List Edge

@@ -26,7 +26,8 @@ use Rattle.trail_check.proofs.Closed.{IsClosed, classes_closed, classes_closed_a
 use Rattle.trail_check.proofs.Closed.{ends_odd, ends_open, two_each}
 use Rattle.trail_check.proofs.Ends as ends
 use Rattle.trail_check.proofs.Edges.{class_labels, class_le, degree_passed, labels_passed, meets, of_edge, one_class}
-use Rattle.trail_check.proofs.Edges.{passed, passed_is, turned_edge}
+use Rattle.trail_state.proofs.Paired.{turned_edge}
+use Rattle.trail_check.proofs.Edges.{passed, passed_is}
 
 -- without breaks a walk goes on to its last node
 breaks_on : (u z : ℕ) (w x : List Step) → Runs u z w → breaks_from u (w ++ x) ≡ breaks_from z x

@@ -50,11 +50,11 @@ use Rattle.trail_check.proofs.Rowed.{IsDrawing, RowedFew, rowed_few}
 use Rattle.trail_check.proofs.Together.{Whole, whole}
 use Rattle.trail_check.proofs.Turned.{AreSmall, Drawn, drawn}
 
-abbrev all_edges : List (List Edge) → List Edge
+abbrev pub all_edges : List (List Edge) → List Edge
 all_edges cs = flat_map (λ (c : List Edge). c) cs
 
 -- the edges of all choices, after some
-added_all : (cs : List (List Edge)) (es : List Edge) → IsPermutation (all_added es cs) (all_edges cs ++ es)
+pub added_all : (cs : List (List Edge)) (es : List Edge) → IsPermutation (all_added es cs) (all_edges cs ++ es)
 added_all [] es = IsPermutation-refl es
 added_all (c ∷ cs) es =
     let rest : IsPermutation (all_added (added es c) cs) (all_edges cs ++ added es c) = added_all cs (added es c) in

@@ -1,8 +1,8 @@
 pub mod Decided
 pub mod Each
 pub mod Found
+pub mod OddEnds
 pub mod Least
-pub mod Leveled
 pub mod Lines
 pub mod Refusals
 pub mod Sound
@@ -20,3 +20,9 @@ pub mod Rowed
 pub mod Steps
 pub mod Together
 pub mod Turned
+pub mod Exact
+pub mod Covered
+pub mod EdgeSettled
+pub mod Settled
+pub mod SettledAlong
+pub mod Certain

@@ -14,7 +14,7 @@ use Rattle.trail_check.specs.declared.refusal.TrailRefusal.TheVariants as refusa
 use Rattle.trail_check.specs.Accepted.{IsAccepted, IsNeverAccepted, first_unproved, least_gaps}
 use Rattle.trail_check.specs.Gates.{AreGates, HasFewWays}
 use Rattle.trail_check.specs.Justified.{ends_proved, gaps_proved, unproved}
-use Rattle.trail_check.specs.Leveled.{levels_of}
+use Rattle.trail_check.specs.Leveled.{levels_for}
 use Rattle.trail_check.specs.Listed.{lemmas_listed}
 use Rattle.trail_check.specs.Refusal.{IsFault, LemmasRefused, Refuses, RowRefused}
 
@@ -23,15 +23,15 @@ use Rattle.trail_check.specs.Refusal.{IsFault, LemmasRefused, Refuses, RowRefuse
 by_levels : (P : List Level → Type 0) (levels all : List Level) → levels ≡ all → P levels → P all
 by_levels P levels all is h = subst P is h
 
-pub all_justified : (f : Fingers) (trails : TrailCertificate) (levels : List Level) → levels ≡ levels_of f trails.order → unproved levels [] 5 (lemmas_listed levels trails.lemmas) ≡ None → first_unproved f trails ≡ None
+pub all_justified : (f : Fingers) (trails : TrailCertificate) (levels : List Level) → levels ≡ levels_for f trails → unproved levels [] 5 (lemmas_listed levels trails.lemmas) ≡ None → first_unproved f trails ≡ None
 all_justified f trails levels are h =
-    by_levels (λ (ls : List Level). unproved ls [] 5 (lemmas_listed ls trails.lemmas) ≡ None) levels (levels_of f trails.order) are h
+    by_levels (λ (ls : List Level). unproved ls [] 5 (lemmas_listed ls trails.lemmas) ≡ None) levels (levels_for f trails) are h
 
-gaps_are : (f : Fingers) (trails : TrailCertificate) (levels : List Level) (ends : ℕ) → levels ≡ levels_of f trails.order → ends ≡ ends_proved (lemmas_listed levels trails.lemmas) → gaps_proved ends ≡ least_gaps f trails
+gaps_are : (f : Fingers) (trails : TrailCertificate) (levels : List Level) (ends : ℕ) → levels ≡ levels_for f trails → ends ≡ ends_proved (lemmas_listed levels trails.lemmas) → gaps_proved ends ≡ least_gaps f trails
 gaps_are f trails levels ends are is =
     ap gaps_proved (is ∙ ap (λ (ls : List Level). ends_proved (lemmas_listed ls trails.lemmas)) are)
 
-pub accepts : (f : Fingers) (trails : TrailCertificate) (levels : List Level) (ends gaps : ℕ) → AreGates f trails → levels ≡ levels_of f trails.order → unproved levels [] 5 (lemmas_listed levels trails.lemmas) ≡ None → ends ≡ ends_proved (lemmas_listed levels trails.lemmas) → WithKinds f (λ (k : Kinds). BestPasses k f (gaps_proved ends) trails.best gaps) → IsAccepted f trails gaps
+pub accepts : (f : Fingers) (trails : TrailCertificate) (levels : List Level) (ends gaps : ℕ) → AreGates f trails → levels ≡ levels_for f trails → unproved levels [] 5 (lemmas_listed levels trails.lemmas) ≡ None → ends ≡ ends_proved (lemmas_listed levels trails.lemmas) → WithKinds f (λ (k : Kinds). BestPasses k f (gaps_proved ends) trails.best gaps) → IsAccepted f trails gaps
 accepts f trails levels ends gaps gates are justified is passes = record {
   gates = gates;
   justified = all_justified f trails levels are justified;
@@ -40,9 +40,9 @@ accepts f trails levels ends gaps gates are justified is passes = record {
 
 -- ---- refusals
 
-first_refused : (f : Fingers) (trails : TrailCertificate) (levels : List Level) → levels ≡ levels_of f trails.order → (cause : TrailRefusal) → LemmasRefused (unproved levels [] 5 (lemmas_listed levels trails.lemmas)) cause → LemmasRefused (first_unproved f trails) cause
+first_refused : (f : Fingers) (trails : TrailCertificate) (levels : List Level) → levels ≡ levels_for f trails → (cause : TrailRefusal) → LemmasRefused (unproved levels [] 5 (lemmas_listed levels trails.lemmas)) cause → LemmasRefused (first_unproved f trails) cause
 first_refused f trails levels are cause h =
-    by_levels (λ (ls : List Level). LemmasRefused (unproved ls [] 5 (lemmas_listed ls trails.lemmas)) cause) levels (levels_of f trails.order) are h
+    by_levels (λ (ls : List Level). LemmasRefused (unproved ls [] 5 (lemmas_listed ls trails.lemmas)) cause) levels (levels_for f trails) are h
 
 lemmas_cause : (f : Fingers) (trails : TrailCertificate) (cause : TrailRefusal) → AreGates f trails → HasFewWays f trails → LemmasRefused (first_unproved f trails) cause → Refuses f trails cause
 lemmas_cause f trails refusal.Gates gates few h = absurd h
@@ -54,7 +54,7 @@ lemmas_cause f trails (refusal.Gaps said counted) gates few h = absurd h
 lemmas_cause f trails (refusal.NotLeast best said) gates few h = absurd h
 lemmas_cause f trails refusal.NoMemory gates few h = tt
 
-pub lemmas_refuse : (f : Fingers) (trails : TrailCertificate) (levels : List Level) (cause : TrailRefusal) → AreGates f trails → HasFewWays f trails → levels ≡ levels_of f trails.order → LemmasRefused (unproved levels [] 5 (lemmas_listed levels trails.lemmas)) cause → Refuses f trails cause
+pub lemmas_refuse : (f : Fingers) (trails : TrailCertificate) (levels : List Level) (cause : TrailRefusal) → AreGates f trails → HasFewWays f trails → levels ≡ levels_for f trails → LemmasRefused (unproved levels [] 5 (lemmas_listed levels trails.lemmas)) cause → Refuses f trails cause
 lemmas_refuse f trails levels cause gates few are h = lemmas_cause f trails cause gates few (first_refused f trails levels are cause h)
 
 row_cause : (f : Fingers) (trails : TrailCertificate) (cause : TrailRefusal) → AreGates f trails → HasFewWays f trails → first_unproved f trails ≡ None → WithKinds f (λ (k : Kinds). RowRefused k f (least_gaps f trails) trails.best cause) → Refuses f trails cause
@@ -67,7 +67,7 @@ row_cause f trails (refusal.Gaps said counted) gates few justified h = (gates, f
 row_cause f trails (refusal.NotLeast best said) gates few justified h = (gates, few, justified, h)
 row_cause f trails refusal.NoMemory gates few justified h = tt
 
-pub row_refuses : (f : Fingers) (trails : TrailCertificate) (levels : List Level) (ends : ℕ) (cause : TrailRefusal) → AreGates f trails → HasFewWays f trails → levels ≡ levels_of f trails.order → unproved levels [] 5 (lemmas_listed levels trails.lemmas) ≡ None → ends ≡ ends_proved (lemmas_listed levels trails.lemmas) → WithKinds f (λ (k : Kinds). RowRefused k f (gaps_proved ends) trails.best cause) → Refuses f trails cause
+pub row_refuses : (f : Fingers) (trails : TrailCertificate) (levels : List Level) (ends : ℕ) (cause : TrailRefusal) → AreGates f trails → HasFewWays f trails → levels ≡ levels_for f trails → unproved levels [] 5 (lemmas_listed levels trails.lemmas) ≡ None → ends ≡ ends_proved (lemmas_listed levels trails.lemmas) → WithKinds f (λ (k : Kinds). RowRefused k f (gaps_proved ends) trails.best cause) → Refuses f trails cause
 row_refuses f trails levels ends cause gates few are justified is h =
     row_cause f trails cause gates few (all_justified f trails levels are justified)
     (subst (λ (least : ℕ). WithKinds f (λ (k : Kinds). RowRefused k f least trails.best cause)) (gaps_are f trails levels ends are is) h)

@@ -10,19 +10,19 @@ use Rattle.trail_log.specs.declared.trails.TrailCertificate.{TrailCertificate}
 use Rattle.trail_check.specs.declared.lemma.TrailLemma.{TrailLemma}
 use Rattle.trail_check.specs.Gates.{AreGates}
 use Rattle.trail_check.specs.Justified.{IsTrueOf, ends_proved, gaps_proved, unproved}
-use Rattle.trail_check.specs.Leveled.{levels_of}
+use Rattle.trail_check.specs.Leveled.{levels_for}
 use Rattle.trail_check.specs.Listed.{lemmas_listed}
 
 abbrev pub lemmas_of : Fingers → TrailCertificate → List TrailLemma
-lemmas_of f trails = lemmas_listed (levels_of f trails.order) trails.lemmas
+lemmas_of f trails = lemmas_listed (levels_for f trails) trails.lemmas
 
 -- the line of the first lemma that is not justified; the first lemma stands at line 5
 abbrev pub first_unproved : Fingers → TrailCertificate → Option ℕ
-first_unproved f trails = unproved (levels_of f trails.order) [] 5 (lemmas_of f trails)
+first_unproved f trails = unproved (levels_for f trails) [] 5 (lemmas_of f trails)
 
 -- each lemma of the certificate is true
 abbrev pub AreTrueOf : Fingers → TrailCertificate → Type 0
-AreTrueOf f trails = All (IsTrueOf (levels_of f trails.order)) (lemmas_of f trails)
+AreTrueOf f trails = All (IsTrueOf (levels_for f trails)) (lemmas_of f trails)
 
 -- the gaps that the lemmas prove of every row
 abbrev pub least_gaps : Fingers → TrailCertificate → ℕ

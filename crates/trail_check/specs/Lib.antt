@@ -1,5 +1,6 @@
 -- What contracts of public calls cite, and what these definitions stand on.
 pub mod Accepted
+pub mod Closing
 pub mod Gates
 pub mod Graph
 pub mod Indexed

@@ -11,6 +11,7 @@ use Rattle.trail_check.specs.declared.refusal.TrailRefusal.{TrailRefusal}
 use Rattle.trail_check.specs.declared.refusal.TrailRefusal.TheVariants as refusal
 use Rattle.trail_check.specs.Accepted.{first_unproved, least_gaps}
 use Rattle.trail_check.specs.Gates.{AreGates, HasFewWays, first_with_many}
+use Rattle.trail_check.specs.Leveled.{closed_of}
 
 -- the row is refused as that of a log whose lemmas prove so many gaps
 abbrev pub RowRefused : Kinds → Fingers → ℕ → Option Best → TrailRefusal → Type 0
@@ -31,7 +32,7 @@ LemmasRefused first _ = ⊥
 -- all are, and the row is refused
 abbrev pub Refuses : Fingers → TrailCertificate → TrailRefusal → Type 0
 Refuses f trails refusal.Gates = AreGates f trails → ⊥
-Refuses f trails (refusal.Choices gate) = AreGates f trails × (first_with_many f trails.order ≡ Some gate)
+Refuses f trails (refusal.Choices gate) = AreGates f trails × (first_with_many f (closed_of f trails) ≡ Some gate)
 Refuses f trails (refusal.Unproved line) = AreGates f trails × HasFewWays f trails
     × (first_unproved f trails ≡ Some line)
 Refuses f trails refusal.NoMemory = Unit {0}

@@ -5,6 +5,8 @@ use Rattle.cell_num.specs.declared.net.NetNo.{NetNo}
 use Rattle.cell_num.specs.declared.finger.Finger.{Finger}
 use Rattle.cell_num.specs.declared.finger.Fingers.{Fingers}
 use Rattle.cell_num.specs.Fingers.{on_gate}
+use Rattle.open_gates.specs.Open.{have_more}
+use Rattle.trail_check.specs.Leveled.{open_of}
 use Rattle.trail_log.specs.declared.trails.TrailCertificate.{TrailCertificate}
 
 abbrev pub has_gate : List NetNo → ℕ → Bool
@@ -23,12 +25,5 @@ are_ordered order fingers = list_all (λ (x : Finger). has_gate order x.gate.0) 
 abbrev pub is_order : Fingers → List NetNo → Bool
 is_order f order = are_once order && list_all (is_gate f) order && are_ordered order f.p && are_ordered order f.n
 
--- the gate has no half columns, or is listed
-abbrev pub is_filled : Fingers → List NetNo → Finger → Bool
-is_filled f fill x = (on_gate x.gate.0 f.p == on_gate x.gate.0 f.n) || has_gate fill x.gate.0
-
-abbrev pub are_filled : Fingers → List NetNo → Bool
-are_filled f fill = list_all (is_filled f fill) f.p && list_all (is_filled f fill) f.n
-
 abbrev pub gates_test : Fingers → TrailCertificate → Bool
-gates_test f trails = is_order f trails.order && are_filled f trails.fill
+gates_test f trails = is_order f trails.order && have_more f (open_of f trails)

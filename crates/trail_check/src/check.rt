@@ -1,16 +1,65 @@
-ghost use Rattle.std.specs.Prelude.{◌≢◌, ◌≤◌, IfErr, IfOk, length, ℕ};
+ghost use Rattle.std.specs.Prelude.{◌≡◌, ◌≢◌, ◌≤◌, All, IfErr, IfOk, length, ℕ};
 ghost use Rattle.cell_num.specs.Fingers.{AreFingers};
 ghost use Rattle.trail_check.specs.Accepted.{AreTrueOf, IsAccepted, IsLow, IsNeverAccepted};
 ghost use Rattle.trail_check.specs.Gates.{AreGates, HasFewWays};
+ghost use Rattle.trail_check.specs.Leveled.{closed_of, levels_for, open_of};
+ghost use Rattle.open_gates.specs.Listed.{HasFewNodes};
 ghost use Rattle.trail_check.specs.Refusal.{IsFault, Proves, Refuses};
 ghost use Rattle.trail_check.specs.declared.refusal.TrailRefusal.TheVariants as refusal;
 
 use crate::gates::are_gates;
 use crate::ways::first_with_many;
-use crate::{TrailRefusal, check_lemmas, check_row, levels_of};
-use cell_num::{Fingers, MOST_BYTES};
+use crate::{TrailRefusal, check_lemmas, check_row};
+use cell_num::{Fingers, List, MOST_BYTES, NetNo, NoMemory};
+use open_gates::{OpenGates, closed_gates, open_levels};
 use std::alloc::Global;
 use trail_log::TrailCertificate;
+use trail_state::Level;
+
+// The gates that are left open.
+fn open_of(
+    alloc: Global,
+    fingers: &Fingers,
+    trails: &TrailCertificate,
+) -> Result<OpenGates, NoMemory>
+    ensures { IfOk result (λ opened. opened ≡ open_of fingers.now trails.now) }
+{
+    OpenGates::unfilled(
+        alloc,
+        fingers,
+        trails.fill.as_slice(),
+        trails.order.as_slice(),
+    )
+}
+
+fn closed_of(
+    alloc: Global,
+    fingers: &Fingers,
+    trails: &TrailCertificate,
+) -> Result<List<NetNo>, NoMemory>
+    ensures { IfOk result (λ gates. gates ≡ closed_of fingers.now trails.now) }
+{
+    closed_gates(
+        alloc,
+        fingers,
+        trails.fill.as_slice(),
+        trails.order.as_slice(),
+    )
+}
+
+fn levels_for(
+    alloc: Global,
+    fingers: &Fingers,
+    trails: &TrailCertificate,
+    opened: &OpenGates,
+) -> Result<List<Level>, NoMemory>
+    requires fingers { AreFingers fingers.now }
+    requires opened { opened.now ≡ open_of fingers.now trails.now }
+    ensures is { IfOk result (λ levels. levels ≡ levels_for fingers.now trails.now) }
+    ensures nodes { IfOk result (All HasFewNodes) }
+{
+    open_levels(alloc, fingers, opened, trails.order.as_slice())
+}
 
 // The lemmas and the row, where the gates are as asked.
 #[tactic(auto, using(crate::proofs::Rules::check_listed_rules))]
@@ -18,8 +67,10 @@ fn check_listed(
     alloc: Global,
     fingers: &Fingers,
     trails: &TrailCertificate,
+    opened: &OpenGates,
 ) -> Result<u32, TrailRefusal>
     requires fingers { AreFingers fingers.now }
+    requires opened { opened.now ≡ open_of fingers.now trails.now }
     requires gates { AreGates fingers.now trails.now }
     requires few_ways { HasFewWays fingers.now trails.now }
     requires few { length trails.now.lemmas ≤ MOST_BYTES }
@@ -29,7 +80,7 @@ fn check_listed(
     ensures least { IfOk result (IsLow fingers.now) }
     ensures low { IfErr result (Proves (IsLow fingers.now)) }
 {
-    let levels = levels_of(alloc, fingers, trails.order.as_slice())?;
+    let levels = levels_for(alloc, fingers, trails, opened)?;
     let ends = check_lemmas(alloc, levels.as_slice(), trails.lemmas.as_slice())?;
     check_row(alloc, fingers, &trails.best, ends.saturating_sub(1) / 2)
 }
@@ -54,11 +105,13 @@ pub fn check_trails(
     ensures law { (gaps : ℕ) → IsAccepted fingers.now trails.now gaps → IsLow fingers.now gaps }
     ensures lemmas { IfOk result (λ _. AreTrueOf fingers.now trails.now) }
 {
-    if !are_gates(fingers, trails) {
+    let opened = open_of(alloc, fingers, trails)?;
+    if !are_gates(fingers, trails, &opened) {
         return Err(TrailRefusal::Gates);
     }
-    if let Some(gate) = first_with_many(alloc, fingers, trails.order.as_slice())? {
+    let closed = closed_of(alloc, fingers, trails)?;
+    if let Some(gate) = first_with_many(alloc, fingers, closed.as_slice())? {
         return Err(TrailRefusal::Choices { gate });
     }
-    check_listed(alloc, fingers, trails)
+    check_listed(alloc, fingers, trails, &opened)
 }

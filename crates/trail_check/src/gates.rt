@@ -1,10 +1,11 @@
 ghost use Rattle.std.specs.Prelude.{◌≡◌, ◌↔◌, IsTrue};
 ghost use Rattle.std.specs.List.{list_all};
 ghost use Rattle.trail_check.specs.Gates.{AreGates};
-ghost use Rattle.trail_check.specs.Tests.{are_filled, are_once, are_ordered, gates_test, has_gate, is_filled, is_gate};
-ghost use Rattle.trail_check.specs.Tests.{is_order};
+ghost use Rattle.trail_check.specs.Leveled.{open_of};
+ghost use Rattle.trail_check.specs.Tests.{are_once, are_ordered, gates_test, has_gate, is_gate, is_order};
 
 use cell_num::{Finger, Fingers, NetNo};
+use open_gates::OpenGates;
 use trail_log::TrailCertificate;
 use trail_state::count_on;
 
@@ -50,37 +51,19 @@ fn is_order(fingers: &Fingers, order: &[NetNo]) -> bool
         && are_ordered(order, fingers.n.as_slice())
 }
 
-fn is_filled(fingers: &Fingers, fill: &[NetNo], finger: &Finger) -> bool
-    ensures { result ≡ is_filled fingers.now fill.now finger.now }
-{
-    let gate = finger.gate.0;
-    count_on(fingers.p.as_slice(), gate) == count_on(fingers.n.as_slice(), gate)
-        || has_gate(fill, gate)
-}
-
-fn are_filled_in(fingers: &Fingers, fill: &[NetNo], row: &[Finger]) -> bool
-    ensures { result ≡ list_all (is_filled fingers.now fill.now) row.now }
-{
-    row.iter().all(|finger| is_filled(fingers, fill, finger))
-}
-
-fn are_filled(fingers: &Fingers, fill: &[NetNo]) -> bool
-    ensures { result ≡ are_filled fingers.now fill.now }
-{
-    are_filled_in(fingers, fill, fingers.p.as_slice())
-        && are_filled_in(fingers, fill, fingers.n.as_slice())
-}
-
-fn passes(fingers: &Fingers, trails: &TrailCertificate) -> bool
+fn passes(fingers: &Fingers, trails: &TrailCertificate, opened: &OpenGates) -> bool
+    requires { opened.now ≡ open_of fingers.now trails.now }
     ensures { result ≡ gates_test fingers.now trails.now }
 {
-    is_order(fingers, trails.order.as_slice()) && are_filled(fingers, trails.fill.as_slice())
+    is_order(fingers, trails.order.as_slice()) && opened.have_more(fingers)
 }
 
-/// Whether the order is each gate of a finger once, and each gate with half columns is filled.
+/// Whether the order is each gate of a finger once, and the gates with half columns that are not filled all have more
+/// fingers in one row: these are left open.
 #[tactic(auto, using(crate::proofs::Decided::gates_decide))]
-pub fn are_gates(fingers: &Fingers, trails: &TrailCertificate) -> bool
+pub fn are_gates(fingers: &Fingers, trails: &TrailCertificate, opened: &OpenGates) -> bool
+    requires { opened.now ≡ open_of fingers.now trails.now }
     ensures { IsTrue result ↔ AreGates fingers.now trails.now }
 {
-    passes(fingers, trails)
+    passes(fingers, trails, opened)
 }

@@ -2,19 +2,23 @@ ghost use Rattle.std.specs.Prelude.{◌≡◌, ◌≢◌, ◌≤◌, ◌<◌, []
 ghost use Rattle.std.specs.List.{list_all};
 ghost use Rattle.trail_state.specs.declared.level.Level.{Level as LevelOf};
 ghost use Rattle.trail_state.specs.Levels.{Ends};
+ghost use Rattle.trail_check.specs.Closing.{closing_nodes};
 ghost use Rattle.trail_check.specs.Indexed.{IsIndexOf};
 ghost use Rattle.trail_check.specs.Justified.{choice_reaches, ends_proved, is_justified, unproved};
 ghost use Rattle.trail_check.specs.Listed.{lemmas_listed};
 ghost use Rattle.trail_check.specs.Refusal.{LemmasRefused};
 ghost use Rattle.trail_check.specs.declared.refusal.TrailRefusal.TheVariants as refusal;
 
-use crate::{LemmaIndex, TrailLemma, TrailRefusal, ends_proved, lemma_listed};
+use crate::{
+    ClosingNodes, LemmaIndex, TrailLemma, TrailRefusal, closing_nodes, ends_proved, lemma_listed,
+    odd_ends,
+};
 use cell_num::{List, MOST_BYTES, NoMemory};
 use std::alloc::Global;
 use trail_log::LemmaLine;
 use trail_state::{Choice, Level, after};
 
-fn reaches(
+fn reaches_by_lemmas(
     alloc: Global,
     earlier: &[TrailLemma],
     index: &LemmaIndex,
@@ -37,6 +41,27 @@ fn reaches(
     Ok(index.knows(earlier, u64::from(lemma.done) + 1, &settled.state, need))
 }
 
+// Whether the choice reaches the lemma's bound. Where as many nodes that close are odd, no lemma is looked up.
+fn reaches(
+    alloc: Global,
+    earlier: &[TrailLemma],
+    index: &LemmaIndex,
+    level: &Level,
+    lemma: &TrailLemma,
+    closing: &ClosingNodes,
+    choice: &Choice,
+) -> Result<bool, NoMemory>
+    requires nodes { length level.now.now ≤ 65536 }
+    requires index { IsIndexOf earlier.now index.now }
+    requires closing { closing.now ≡ closing_nodes level.now lemma.now.state }
+    ensures { IfOk result (λ ok. ok ≡ choice_reaches earlier.now level.entry.now lemma.now choice.now) }
+{
+    if lemma.bound as usize <= odd_ends(closing, choice) {
+        return Ok(true);
+    }
+    reaches_by_lemmas(alloc, earlier, index, level, lemma, choice)
+}
+
 // Whether each choice reaches the lemma's bound.
 #[tactic(auto, using(crate::proofs::Each::all_pass))]
 fn each_reaches(
@@ -51,9 +76,10 @@ fn each_reaches(
     ensures { IfOk result (λ ok. ok ≡
         list_all (choice_reaches earlier.now level.entry.now lemma.now) level.entry.now.choices) }
 {
+    let closing = closing_nodes(alloc, level, &lemma.state)?;
     let choices = level.choices.as_slice();
     for choice in choices {
-        if !reaches(alloc, earlier, index, level, lemma, choice)? {
+        if !reaches(alloc, earlier, index, level, lemma, &closing, choice)? {
             return Ok(false);
         }
     }

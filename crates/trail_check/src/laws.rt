@@ -1,5 +1,5 @@
 // The calls do nothing: their contracts are the laws.
-ghost use Rattle.std.specs.Prelude.{◌≡◌, ◌+◌, ◌*◌, ◌↔◌, ℕ, List};
+ghost use Rattle.std.specs.Prelude.{◌≡◌, ◌≤◌, ◌+◌, ◌*◌, ◌↔◌, ℕ, List, []};
 ghost use Rattle.cell_num.specs.declared.finger.Fingers.{Fingers};
 ghost use Rattle.cell_num.specs.declared.net.NetNo.{NetNo};
 ghost use Rattle.cell_num.specs.Fingers.{AreFingers};
@@ -7,7 +7,8 @@ ghost use Rattle.row_model.specs.declared.column.Column.{Column};
 ghost use Rattle.row_model.specs.Arrangement.{IsArrangement};
 ghost use Rattle.row_model.specs.Gaps.{gaps_of};
 ghost use Rattle.trail_state.specs.declared.edge.Edge.{Edge};
-ghost use Rattle.trail_state.specs.Levels.{IsOrder};
+ghost use Rattle.trail_state.specs.declared.level.Level.{Level};
+ghost use Rattle.trail_state.specs.Levels.{AreLevels, Ends, IsOrder};
 ghost use Rattle.trail_check.specs.Graph.{AreChained, class_of};
 ghost use Rattle.trail_check.specs.Rows.{AreChoices, AreFewestEnds, AreFewestGaps, HasChoices, HasRow, ends_in};
 ghost use Rattle.trail_check.specs.Rows.{gaps_with};
@@ -35,4 +36,16 @@ pub fn possible_gaps()
 pub fn fewest_gaps()
     ensures { (f : Fingers) → AreFingers f → (order : List NetNo) → IsOrder f order
         → (ends : ℕ) → AreFewestEnds f order ends → AreFewestGaps f (gaps_with ends) }
+{}
+
+/// The states along an order count the ends of its choices exactly: every list of choices results in so many ends
+/// exactly where each one has at least as many as a graph (`all`). Where not every list results in one end more, some
+/// choices have no more (`some`). It does nothing: its contract is the law.
+pub fn known_ends()
+    ensures all { (f : Fingers) → AreFingers f → (order : List NetNo) → IsOrder f order
+        → (levels : List Level) → AreLevels f order levels → (ends : ℕ) → Ends levels [] ends
+        ↔ ((choices : List (List Edge)) → AreChoices f order choices → ends ≤ ends_in f choices) }
+    ensures some { (f : Fingers) → AreFingers f → (order : List NetNo) → IsOrder f order
+        → (levels : List Level) → AreLevels f order levels
+        → (ends : ℕ) → (Ends levels [] (ends + 1) → ⊥) → HasChoices f order ends }
 {}

@@ -2,25 +2,25 @@
 #![tactic(auto)]
 
 mod check;
+mod closing;
 mod gates;
 mod index;
 mod justified;
 mod known;
 mod laws;
 mod lemma;
-mod levels;
 mod refusal;
 mod row;
 mod ways;
 
 pub use check::check_trails;
+pub use closing::{ClosingNode, ClosingNodes, closing_nodes, odd_ends};
 pub use gates::are_gates;
 pub use index::LemmaIndex;
 pub use justified::check_lemmas;
 pub use known::{ends_proved, is_same_state};
-pub use laws::{classes, fewest_gaps, possible_gaps};
+pub use laws::{classes, fewest_gaps, known_ends, possible_gaps};
 pub use lemma::{TrailLemma, lemma_listed};
-pub use levels::levels_of;
 pub use refusal::TrailRefusal;
 pub use row::check_row;
 pub use ways::{MOST_CHOICES, first_with_many, has_many_ways};

@@ -6,10 +6,12 @@ use thiserror::Error;
 /// Why a certificate is refused, in the order of looking.
 #[derive(Debug, PartialEq, Eq, Drop, Error)]
 pub enum TrailRefusal {
-    /// The order is not each gate of a finger once, or a gate with half columns is not filled.
+    /// The order is not each gate of a finger once, or the gates with half columns that are not filled do not all have
+    /// more fingers in one row.
     #[error("Gates")]
     Gates,
-    /// The first gate of the order whose fingers pair in more than [`MOST_CHOICES`](crate::MOST_CHOICES) ways.
+    /// The first gate of the order that is not left open, and whose fingers pair in more than
+    /// [`MOST_CHOICES`](crate::MOST_CHOICES) ways.
     #[error("Choices")]
     Choices { gate: NetNo },
     /// The first lemma that is not justified, by its line in the text of the certificate.

@@ -1,11 +1,12 @@
 -- The first row of the proved number is the first least one, and its certificate is accepted.
-use Rattle.std.proofs.Common.{ℕ, ◌≡◌, ◌+◌, ◌<◌, ◌≤◌, ◌⊎◌, List, [], ◌∷◌, IsNone, length, refl, sym, ap, subst, arith, inl, inr, ◌∙◌}
+use Rattle.std.proofs.Common.{ℕ, ◌≡◌, ◌+◌, ◌*◌, ◌<◌, ◌≤◌, ◌⊎◌, List, [], ◌∷◌, IsNone, length, refl, sym, ap, subst, arith, inl, inr, ◌∙◌}
 use Rattle.std.specs.List.{zip}
 use Rattle.std.proofs.lemmas.Bool.{cases_lt}
 use Rattle.std.proofs.lemmas.List.Sums.{count_by-le-length}
 use Rattle.std.proofs.lemmas.Slice.Zip.{length-zip}
+use Rattle.cell_num.specs.declared.net.NetNo.{NetNo}
 use Rattle.cell_num.specs.declared.finger.Fingers.{Fingers}
-use Rattle.cell_num.specs.Fingers.{AreFingers, columns_of}
+use Rattle.cell_num.specs.Fingers.{AreFingers}
 use Rattle.row_model.specs.declared.column.Column.{Column}
 use Rattle.row_model.specs.Arrangement.{IsArrangement}
 use Rattle.row_model.specs.Gaps.{gaps_of, is_gap}
@@ -24,12 +25,17 @@ use Rattle.row_search.proofs.Columns.{all_fit, all_listed, listed_row}
 use Rattle.row_search.proofs.Least.{further_le}
 use Rattle.trail_log.specs.Fits.{TrailsFit}
 use Rattle.trail_check.specs.Accepted.{IsLow, least_gaps}
+use Rattle.open_gates.specs.Leveled.{levels_of}
+use Rattle.open_gates.proofs.Leveled.{levels_are}
+use Rattle.trail_check.specs.Leveled.{levels_for, open_of}
+use Rattle.trail_check.specs.Rows.{AreFewestGaps, HasChoices, HasRow}
+use Rattle.trail_check.proofs.Certain.{fewer_ends}
+use Rattle.trail_check.proofs.Law.{possible_gaps}
 use Rattle.trail_search.specs.declared.proof.Proof.{Proof}
-use Rattle.trail_search.specs.Proof.{HasReached, IsMost, IsProof, gate_units, lemma_units}
-use Rattle.trail_search.proofs.Proved.{ends_gaps}
+use Rattle.trail_search.specs.Proof.{HasReached, IsMostOf, IsProof, lemma_units}
+use Rattle.trail_search.proofs.Proving.{closed_levels, ends_more}
 use Rattle.trail_search.specs.declared.first.ListedRow.{ListedRow}
-use Rattle.trail_search.specs.Searched.{AreSearched}
-use Rattle.trail_search.specs.Ended.{IsCertified, IsTrailFound, IsTrailSpent, row_units}
+use Rattle.trail_search.specs.Ended.{IsCertified, IsTrailFound, IsTrailSpent, WentForLemmas, WentForRows}
 use Rattle.trail_search.specs.First.{IsFirstRow, with_best}
 use Rattle.trail_search.specs.Visit.{IsFirstOf}
 
@@ -44,14 +50,22 @@ row_gaps [] few = omega arith
 row_gaps (c ∷ cs) few = omega (arith, few, count_by-le-length is_gap (zip (c ∷ cs) cs), length-zip (c ∷ cs) cs)
 
 -- no lemmas prove more than 31 gaps, since some arrangement has no more
-pub most_proved : (k : Kinds) (f : Fingers) (proof : Proof) → AreFingers f → AreKinds f k → AreSomeKinds k → IsProof f proof → (proof.gaps < 31 → IsMost f proof.trails.order proof.gaps) → IsMost f proof.trails.order proof.gaps
+pub most_proved : (k : Kinds) (f : Fingers) (proof : Proof) → AreFingers f → AreKinds f k → AreSomeKinds k → IsProof f proof → (proof.gaps < 31 → IsMostOf (levels_for f proof.trails) proof.gaps) → IsMostOf (levels_for f proof.trails) proof.gaps
 most_proved k f proof ok of_f kinds p few = elim (cases_lt proof.gaps 31) [
   | inl below ↦ few below
   | inr above ↦ λ ends.
       let c : (row : List Column) × Completes k (start_of k) row = completion_exists k (start_of k) (gates_are_nets k kinds) in
-      let more : proof.gaps < gaps_of c.0 = ends_gaps f proof.trails.order proof.gaps ok p.gates.order ends c.0 (arrangement_of f k c.0 of_f c.1) in
+      let more : proof.gaps < gaps_of c.0 = ends_more f proof.trails proof.gaps ok p.gates ends c.0 (arrangement_of f k c.0 of_f c.1) in
       omega (arith, above, more, row_gaps c.0 (omega (arith, c.1.fewest, kinds.few_columns)))
 ]
+
+-- Where no gate is left open, some arrangement has no more gaps than that, and none has fewer.
+pub fewest_proved : (k : Kinds) (f : Fingers) (proof : Proof) → AreFingers f → AreKinds f k → AreSomeKinds k → IsProof f proof → (proof.gaps < 31 → IsMostOf (levels_for f proof.trails) proof.gaps) → (open_of f proof.trails).gates ≡ [] → AreFewestGaps f proof.gaps
+fewest_proved k f proof ok of_f kinds p few none =
+    let order : List NetNo = proof.trails.order in
+    let choices : HasChoices f order (2 * (proof.gaps + 1)) = fewer_ends f ok order p.gates.order (levels_of f order) (levels_are f order) (2 * (proof.gaps + 1)) (subst (λ ls. IsMostOf ls proof.gaps) (closed_levels f proof.trails none) (most_proved k f proof ok of_f kinds p few)) in
+    let row : HasRow f proof.gaps = (possible_gaps f ok order p.gates.order proof.gaps).1 choices in
+    record { row = row.row; arranges = row.arranges; has = omega (arith, row.few, p.least row.row row.arranges); fewest = p.least }
 
 first_least : (k : Kinds) (f : Fingers) (gaps : ℕ) (steps : List Step) → AreKinds f k → IsLow f gaps → IsFirstOf k (start_of k) gaps steps → IsFirstLeast f (row_of k steps)
 first_least k f gaps steps of_f low h =
@@ -85,7 +99,7 @@ certified k f proof steps of_f kinds p h =
     let fits : TrailsFit k proof.trails = p.fits k of_f.nets in
     record {
       accepted = record {
-        gates = record { order = p.gates.order; filled = p.gates.filled };
+        gates = record { order = p.gates.order; opened = p.gates.opened };
         justified = p.justified;
         passes = (k, of_f, kinds, row_passes k f proof.gaps (least_gaps f proof.trails) steps of_f kinds p.least (omega (arith, p.gaps)) h);
       };
@@ -111,8 +125,8 @@ found_is k f budget proof listed of_f kinds p h kept =
       kept = kept;
     })
 
-pub spent_is : (k : Kinds) (f : Fingers) (budget : ℕ) (proof : Proof) → AreKinds f k → AreSomeKinds k → IsProof f proof → lemma_units f proof.trails ≤ budget → (budget ≤ lemma_units f proof.trails + gate_units f proof.trails.order) ⊎ IsMost f proof.trails.order proof.gaps → ((other : List Column) → IsArrangement other f → proof.gaps < gaps_of other) ⊎ AreSearched k (proof.gaps + 1) (row_units f budget proof.trails) (columns_of f) → IsTrailSpent f budget proof.trails proof.gaps
-spent_is k f budget proof of_f kinds p kept work rows =
+pub spent_is : (k : Kinds) (f : Fingers) (budget : ℕ) (proof : Proof) → AreKinds f k → AreSomeKinds k → IsProof f proof → lemma_units f proof.trails ≤ budget → WentForLemmas f budget proof.trails ⊎ WentForRows f budget proof.trails proof.gaps → IsTrailSpent f budget proof.trails proof.gaps
+spent_is k f budget proof of_f kinds p kept work =
     record {
       lists_none = subst IsNone (sym p.rowless) refl;
       gates = p.gates;
@@ -125,12 +139,9 @@ spent_is k f budget proof of_f kinds p kept work rows =
       fits = (k, of_f, kinds, p.fits k of_f.nets);
       kept = kept;
       work = work;
-      rows = elim rows [
-        | inl none ↦ inl none
-        | inr went ↦ inr (k, of_f, kinds, went)
-      ];
     }
 
--- where no row of so few gaps is found, there is none
-pub none_as_few : (k : Kinds) (f : Fingers) (gaps : ℕ) → AreKinds f k → Need k (start_of k) (gaps + 1) → (other : List Column) → IsArrangement other f → gaps < gaps_of other
-none_as_few k f gaps of_f need other arranges = omega (arith, need other (completion_of f k other of_f arranges), gaps_from_start k other)
+-- a row of the fewest gaps is found
+pub row_found : (k : Kinds) (f : Fingers) (gaps : ℕ) → AreKinds f k → AreFewestGaps f gaps → Need k (start_of k) (gaps + 1) → ⊥
+row_found k f gaps of_f h need =
+    omega (arith, need h.row (completion_of f k h.row of_f h.arranges), gaps_from_start k h.row, h.has)

@@ -14,10 +14,10 @@ use Rattle.trail_state.specs.declared.level.Level.{Level}
 use Rattle.trail_state.specs.Levels.{Ends, IsOrder}
 use Rattle.trail_check.specs.declared.lemma.TrailLemma.{TrailLemma}
 use Rattle.trail_check.specs.Justified.{better, ends_proved, gaps_proved, is_known, is_start, says}
-use Rattle.trail_check.specs.Leveled.{levels_of}
+use Rattle.open_gates.specs.Leveled.{levels_of}
 use Rattle.trail_check.proofs.Sound.{state_is}
 use Rattle.trail_search.specs.declared.kept.Kept.{Kept}
-use Rattle.trail_search.specs.Proof.{HasMost, IsMost}
+use Rattle.trail_search.specs.Proof.{HasMost, IsMostOf}
 use Rattle.trail_search.specs.Search.{IsFurther}
 use Rattle.trail_search.proofs.Grown.{IsChoice}
 
@@ -129,13 +129,13 @@ pub limit_most : (levels : List Level) (a b : Kept) (s : List Place) (limit ends
 limit_most levels a b s limit ends g reached none is few all =
     not_refuted levels s limit ends none is few (ends_fewer levels [] (2 * (limit + 1) + 1) (2 * (gaps_proved (ends_proved b.lemmas) + 1) + 1) all (omega (arith, limit_least levels a b limit g reached)))
 
-pub most_is : (f : Fingers) (order : List NetNo) (levels : List Level) (gaps proved : ℕ) → levels ≡ levels_of f order → gaps ≡ proved → (Ends levels [] (2 * (proved + 1) + 1) → ⊥) → IsMost f order gaps
-most_is f order levels gaps proved same is few all =
-    few (subst (λ (ls : List Level). Ends ls [] (2 * (proved + 1) + 1)) (sym same) (subst (λ (n : ℕ). Ends (levels_of f order) [] (2 * (n + 1) + 1)) is all))
+pub most_is : (levels others : List Level) (gaps proved : ℕ) → levels ≡ others → gaps ≡ proved → (Ends levels [] (2 * (proved + 1) + 1) → ⊥) → IsMostOf others gaps
+most_is levels others gaps proved same is few all =
+    few (subst (λ (ls : List Level). Ends ls [] (2 * (proved + 1) + 1)) (sym same) (subst (λ (n : ℕ). Ends others [] (2 * (n + 1) + 1)) is all))
 
 -- a limit that is not refuted
 pub has_most : (f : Fingers) (order : List NetNo) (levels : List Level) (lemmas : List TrailLemma) (s : List Place) (limit ends gaps : ℕ) (found : Bool) → IsOrder f order → levels ≡ levels_of f order → s ≡ [] → ends ≡ 2 * (limit + 1) → gaps ≡ gaps_proved (ends_proved lemmas) → (found ≡ false → is_known lemmas 0 s (ends + 1) ≡ true) → (found ≡ true → Ends (drop 0 levels) s (ends + 1) → ⊥) → nat_lt limit gaps ≡ false → HasMost f limit
-has_most f order levels lemmas s limit ends gaps true is same none e count failed few not = (order, is, most_is f order levels limit limit same refl (not_refuted levels s limit ends none e (few refl)))
+has_most f order levels lemmas s limit ends gaps true is same none e count failed few not = (order, is, most_is levels (levels_of f order) limit limit same refl (not_refuted levels s limit ends none e (few refl)))
 has_most f order levels lemmas s limit ends gaps false is same none e count failed few not = absurd (above limit gaps not (omega (arith, count, refutes lemmas s limit ends none e (failed refl))))
   where
     above : (a b : ℕ) → nat_lt a b ≡ false → a < b → ⊥

@@ -15,6 +15,9 @@ use Rattle.trail_state.specs.declared.level.Level.{Level}
 use Rattle.trail_log.specs.declared.trails.LemmaLine.{LemmaLine}
 use Rattle.trail_log.specs.Fits.{LemmaFits}
 use Rattle.trail_check.specs.declared.lemma.TrailLemma.{TrailLemma}
+use Rattle.trail_check.specs.declared.closing.ClosingNode.{ClosingNode}
+use Rattle.trail_check.specs.Closing.{closing_nodes, odd_ends}
+use Rattle.trail_check.proofs.OddEnds.{reached_odd}
 use Rattle.trail_check.specs.Indexed.{IsIndexOf}
 use Rattle.trail_check.specs.Justified.{choice_reaches, is_justified, is_known, level_reaches, same_place, same_state, says, unproved}
 use Rattle.trail_check.specs.Listed.{lemma_listed, lemmas_listed, nodes_of}
@@ -168,6 +171,13 @@ fails_dear known level done s after allowed ends choices i h more all =
     let none : (allowed + 1 - ends_after level.now level.next s h.choice == 0) ≡ true = eq-eqb (allowed + 1 - ends_after level.now level.next s h.choice) 0 (omega (arith, h.count, more)) in
     All-more (Fails known level done s (allowed + 1)) choices i h.choice h.within all
     (subst (Fails known level done s (allowed + 1)) h.is (or_left (allowed + 1 - ends_after level.now level.next s h.choice == 0) (list_any (says (done + 1) (state_after level.now level.next s h.choice) (allowed + 1 - ends_after level.now level.next s h.choice)) known) none))
+
+-- or as many nodes that close are odd
+pub fails_odd : (known : List TrailLemma) (level : Level) (done : ℕ) (s : List Place) (allowed : ℕ) (closing : List ClosingNode) (choices : List (List Edge)) (i : ℕ) (item : List Edge) → i < length choices → item ≡ get_or choices i item → closing ≡ closing_nodes level s → allowed < odd_ends closing item → All (Fails known level done s (allowed + 1)) (take i choices) → All (Fails known level done s (allowed + 1)) (take (i + 1) choices)
+fails_odd known level done s allowed closing choices i item within is of_closing more all =
+    let enough : allowed + 1 ≤ odd_ends closing item = omega (arith, more) in
+    All-more (Fails known level done s (allowed + 1)) choices i item within all
+    (subst (Fails known level done s (allowed + 1)) is (sym (reached_odd known level (lemma_of done s (allowed + 1)) closing item (odd_ends closing item) refl enough of_closing)))
 
 -- or so many more are known to come behind it
 pub fails_known : (known : List TrailLemma) (level : Level) (done : ℕ) (s after : List Place) (allowed ends : ℕ) (choices : List (List Edge)) (i : ℕ) → IsChoice level s choices i after ends → ends ≤ allowed → is_known known (done + 1) after (allowed - ends + 1) ≡ true → All (Fails known level done s (allowed + 1)) (take i choices) → All (Fails known level done s (allowed + 1)) (take (i + 1) choices)

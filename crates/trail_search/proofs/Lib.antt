@@ -10,7 +10,10 @@ pub mod Lines
 pub mod StateListed
 pub mod New
 pub mod Orders
+pub mod Opening
+pub mod OpenLevels
 pub mod Proved
+pub mod Proving
 pub mod Reached
 pub mod States
 pub mod Tied

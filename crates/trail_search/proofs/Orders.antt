@@ -1,9 +1,9 @@
 -- An order that permutes the gates of some fingers is one of theirs.
-use Rattle.std.specs.Prelude.{ℕ, ◌≡◌, ◌≢◌, ◌+◌, ◌<◌, ◌≤◌, ◌==◌, Bool, true, false, cond, ltb, max, List, [], ◌∷◌, All, AllPairs, Contains, IsPermutation, count_by, length, map, remove, ◌++◌}
+use Rattle.std.specs.Prelude.{ℕ, ◌≡◌, ◌≢◌, ◌+◌, ◌<◌, ◌≤◌, ◌==◌, Bool, true, false, not, cond, ltb, max, List, [], ◌∷◌, All, AllPairs, Contains, IsPermutation, count_by, length, map, remove, ◌++◌}
 use Rattle.std.specs.List.{filter, list_any, range_with_len}
 use Rattle.std.proofs.Common.{refl, sym, ap, subst, arith, ◌∙◌, inl, inr, get_or, append-nil}
 use Rattle.std.proofs.lemmas.Bool.{and_from, cases_Bool, cases_eq, cases_lt, eqb-true, ne_eqb, or_cases, or_left, or_right}
-use Rattle.std.proofs.lemmas.List.Elements.{All-contains, All-head, All-tail}
+use Rattle.std.proofs.lemmas.List.Elements.{All-contains, All-filter, All-head, All-tail}
 use Rattle.std.proofs.lemmas.List.FromFn.{get_or-range_with_len, length-range_with_len}
 use Rattle.std.proofs.lemmas.List.Kept.{AllPairs-filter}
 use Rattle.std.proofs.lemmas.List.Sorted.{All-permutation, Contains-permutation, IsPermutation-more}
@@ -24,9 +24,8 @@ use Rattle.trail_state.proofs.Opened.{range_below, range_has}
 use Rattle.trail_state.proofs.Sizes.{sum_keys}
 use Rattle.trail_log.specs.Order.{increases, net_rank}
 use Rattle.trail_log.specs.Fits.{NetFits}
-use Rattle.trail_check.specs.Gates.{HasHalfColumns}
 use Rattle.trail_search.specs.Order.{gates_of, has_finger}
-use Rattle.trail_search.specs.Proof.{is_uneven, uneven_gates}
+use Rattle.trail_search.specs.Filling.{filled_gates, is_one_of, is_uneven, opened_gates, uneven_gates}
 
 -- ---- numbers in order
 
@@ -162,19 +161,18 @@ order_short f order ok is =
 
 -- ---- filled gates
 
-pub fill_has : (f : Fingers) (g : NetNo) → AreFingers f → HasHalfColumns f g.0 → Contains (uneven_gates f) g
-fill_has f g ok differ =
-    let some : IsGate f g.0 = elim (cases_lt 0 (on_gate g.0 f.p + on_gate g.0 f.n)) [
-      | inl some ↦ some
-      | inr none ↦ absurd (differ (omega (arith, none)))
-    ] in
-    listed_to (is_uneven f) f.nets g (rw (ne_eqb (on_gate g.0 f.p) (on_gate g.0 f.n) differ) refl) (is_net f g.0 ok some)
+pub uneven_has : (f : Fingers) (g : NetNo) → AreFingers f → IsGate f g.0 → is_uneven f g.0 ≡ true → Contains (uneven_gates f) g
+uneven_has f g ok some uneven = listed_to (is_uneven f) f.nets g uneven (is_net f g.0 ok some)
 
-pub fill_fits : (f : Fingers) → All (NetFits f.nets) (uneven_gates f)
-fill_fits f = all_from_contains (NetFits f.nets) (uneven_gates f) (λ g there. (listed_from (is_uneven f) f.nets g there).1)
+pub fill_fits : (f : Fingers) (order : List NetNo) → All (NetFits f.nets) (filled_gates f order)
+fill_fits f order =
+    All-filter (λ (g : NetNo). not (is_one_of (opened_gates f order) g)) (NetFits f.nets) (uneven_gates f)
+    (all_from_contains (NetFits f.nets) (uneven_gates f) (λ g there. (listed_from (is_uneven f) f.nets g there).1))
 
-pub fill_increases : (f : Fingers) → increases net_rank (uneven_gates f) ≡ true
-fill_increases f = increases_from net_rank (uneven_gates f) (nets_ascend (is_uneven f) f.nets)
+pub fill_increases : (f : Fingers) (order : List NetNo) → increases net_rank (filled_gates f order) ≡ true
+fill_increases f order =
+    increases_from net_rank (filled_gates f order)
+    (AllPairs-filter (λ (a b : NetNo). a.0 < b.0) (λ (g : NetNo). not (is_one_of (opened_gates f order) g)) (uneven_gates f) (nets_ascend (is_uneven f) f.nets))
 
 -- ---- one gate after another
 

@@ -26,22 +26,18 @@ use Rattle.trail_state.specs.Levels.{AreLevels, Ends, IsOrder}
 use Rattle.trail_state.proofs.Members.{Passes, passes_from}
 use Rattle.trail_state.specs.Nodes.{any_can_meet, can_meet, has_net, is_net_in, is_net_on, may_have, open_nodes}
 use Rattle.trail_state.proofs.Opened.{in_net, net_below, range_below}
-use Rattle.bound_log.specs.declared.log.Best.{Best}
-use Rattle.bound_log.specs.Fits.{BestFits}
-use Rattle.trail_log.specs.Order.{increases, net_rank}
-use Rattle.trail_log.specs.Fits.{LemmaFits, NetFits}
+use Rattle.trail_log.specs.Fits.{LemmaFits}
+use Rattle.open_gates.specs.Leveled.{levels_of}
+use Rattle.open_gates.proofs.Leveled.{levels_are}
 use Rattle.trail_check.specs.declared.lemma.TrailLemma.{TrailLemma}
-use Rattle.trail_check.specs.Gates.{HasFewWays, first_with_many, has_many_ways}
+use Rattle.trail_check.specs.Gates.{first_with_many, has_many_ways}
 use Rattle.trail_check.specs.Indexed.{IsIndexOf}
 use Rattle.trail_check.specs.Justified.{ends_proved, gaps_proved, unproved}
-use Rattle.trail_check.specs.Leveled.{levels_of}
 use Rattle.trail_check.specs.Listed.{lemmas_listed, nodes_of}
-use Rattle.trail_check.proofs.Leveled.{levels_are}
 use Rattle.trail_check.proofs.Sound.{ends_true}
 use Rattle.trail_search.specs.declared.kept.Kept.{Kept}
-use Rattle.trail_search.specs.declared.proof.Proof.{Proof}
 use Rattle.trail_search.specs.Line.{AllNodes, AreNodes, IsNode}
-use Rattle.trail_search.specs.Proof.{AttemptsOnce, IsProof, uneven_gates}
+use Rattle.trail_search.specs.Proof.{AttemptsOnce}
 use Rattle.trail_search.specs.Reached.{AreReached, IsWithin}
 use Rattle.trail_search.specs.Search.{AreChained, AreKept, AreNew, AreTied}
 use Rattle.trail_search.specs.Units.{listed_units, path_units, units_of}
@@ -49,7 +45,7 @@ use Rattle.trail_search.proofs.Finds.{found_is}
 use Rattle.trail_search.proofs.Lines.{level_nodes}
 use Rattle.trail_search.proofs.New.{new_none}
 use Rattle.trail_search.proofs.Tied.{units_none}
-use Rattle.trail_search.proofs.Orders.{fill_fits, fill_has, fill_increases, order_fits, order_short, range_ascends}
+use Rattle.trail_search.proofs.Orders.{order_short, range_ascends}
 
 -- ---- levels
 
@@ -69,7 +65,7 @@ node_fits f gates v ok h l =
     let n : may_have f.n f.p s.it.0 (v % 256) ≡ true = (and_parts (may_have f.p f.n s.it.0 (v / 256)) (may_have f.n f.p s.it.0 (v % 256)) s.holds).1 in
     (omega (arith, l), may_be N f.nets f.n f.p s.it.0 (v % 256) ok.n (omega (arith, l)) n)
 
-open_are_nodes : (f : Fingers) (gates : List NetNo) → AreFingers f → AreNodes f.nets (open_nodes f gates)
+pub open_are_nodes : (f : Fingers) (gates : List NetNo) → AreFingers f → AreNodes f.nets (open_nodes f gates)
 open_are_nodes f gates ok =
     let passing : List ℕ = filter (any_can_meet f gates) (range_with_len 0 (256 * f.nets)) in
     record {
@@ -142,36 +138,9 @@ pub kept_least : (f : Fingers) (order : List NetNo) (levels : List Level) (kept 
 kept_least f order levels kept gaps ok is are h e row arranges =
     omega (arith, e, levels_law f ok order is levels (ends_proved kept.lemmas) are (ends_true levels kept.lemmas 5 h.justified) row arranges)
 
--- where no choices come to as few ends as a row of so many gaps has, each row has more
-pub ends_gaps : (f : Fingers) (order : List NetNo) (gaps : ℕ) → AreFingers f → IsOrder f order → Ends (levels_of f order) [] (2 * (gaps + 1) + 1) → (row : List Column) → IsArrangement row f → gaps < gaps_of row
-ends_gaps f order gaps ok is ends row arranges =
-    omega (arith, levels_law f ok order is (levels_of f order) (2 * (gaps + 1) + 1) (levels_are f order) ends row arranges)
-
 -- a gate with too many ways
 pub gate_crowded : (f : Fingers) (order : List NetNo) (o : Option NetNo) (gate : NetNo) → o ≡ first_with_many f order → o ≡ Some gate → has_many_ways f gate ≡ true
 gate_crowded f order o gate is some = (found_is (has_many_ways f) order gate (sym is ∙ some)).passes
-
-pub is_proof : (f : Fingers) (proof : Proof) (levels : List Level) (kept : Kept) → AreFingers f → IsOrder f proof.trails.order → HasFewWays f proof.trails → AreLevels f proof.trails.order levels → levels ≡ levels_of f proof.trails.order → AreKept levels kept → AreReached levels (gaps_proved (ends_proved kept.lemmas)) kept.lemmas → proof.trails.fill ≡ uneven_gates f → proof.trails.lemmas ≡ kept.lines → proof.trails.best ≡ None → proof.gaps ≡ gaps_proved (ends_proved kept.lemmas) → IsProof f proof
-is_proof f proof levels kept ok is few are same h reached fill lines none gaps =
-    let listed : lemmas_listed (levels_of f proof.trails.order) proof.trails.lemmas ≡ kept.lemmas = ap (λ (ls : List Level). lemmas_listed ls proof.trails.lemmas) (sym same) ∙ ap (lemmas_listed levels) lines ∙ h.listed in
-    record {
-      gates = record { order = is; filled = λ g differ. subst (λ (gs : List NetNo). Contains gs g) (sym fill) (fill_has f g ok differ) };
-      few_ways = few;
-      justified = ap (unproved (levels_of f proof.trails.order) [] 5) listed ∙ ap (λ (ls : List Level). unproved ls [] 5 kept.lemmas) (sym same) ∙ h.justified;
-      new = subst (AreNew (levels_of f proof.trails.order)) (sym listed) (subst (λ (ls : List Level). AreNew ls kept.lemmas) same h.new);
-      reached = subst (AreReached (levels_of f proof.trails.order) proof.gaps) (sym listed) (subst (λ (ls : List Level). AreReached ls proof.gaps kept.lemmas) same (subst (λ (n : ℕ). AreReached levels n kept.lemmas) (sym gaps) reached));
-      rowless = none;
-      fill = fill;
-      gaps = gaps ∙ ap (λ (ls : List TrailLemma). gaps_proved (ends_proved ls)) (sym listed);
-      least = kept_least f proof.trails.order levels kept proof.gaps ok is are h gaps;
-      fits = λ k nets. record {
-        fill = subst (λ (n : ℕ). All (NetFits n) proof.trails.fill) (sym nets) (subst (All (NetFits f.nets)) (sym fill) (fill_fits f));
-        increase = ap (increases net_rank) fill ∙ fill_increases f;
-        order = subst (λ (n : ℕ). All (NetFits n) proof.trails.order) (sym nets) (order_fits f proof.trails.order ok is);
-        lemmas = subst (λ (n : ℕ). All (LemmaFits n) proof.trails.lemmas) (sym nets) (subst (All (LemmaFits f.nets)) (sym lines) (h.fits f.nets (level_nodes_of f proof.trails.order levels ok are)));
-        best = subst (λ (o : Option Best). IfSome o (BestFits k)) (sym none) tt;
-      };
-    }
 
 pub refuted : (f : Fingers) (order : List NetNo) (levels : List Level) (kept : Kept) (limit gaps : ℕ) → AreFingers f → IsOrder f order → AreLevels f order levels → AreKept levels kept → gaps ≡ gaps_proved (ends_proved kept.lemmas) → nat_lt limit gaps ≡ true → (row : List Column) → IsArrangement row f → limit < gaps_of row
 refuted f order levels kept limit gaps ok is are h e more row arranges =

@@ -1,6 +1,8 @@
 -- The lemmas that functions name, by function.
 use Rattle.trail_search.proofs.Grown.{further_same, further_then}
-use Rattle.trail_search.proofs.Proved.{gate_crowded, is_proof, kept_least, levels_short, none_kept}
+use Rattle.trail_search.proofs.OpenLevels.{open_short}
+use Rattle.trail_search.proofs.Proved.{gate_crowded, kept_least, levels_short, none_kept}
+use Rattle.trail_search.proofs.Proving.{is_proof}
 use Rattle.trail_search.proofs.Reached.{within_same}
 use Rattle.trail_search.proofs.Spent.{searched}
 use Rattle.trail_search.proofs.States.{state_first}
@@ -8,7 +10,7 @@ use Rattle.trail_search.proofs.Tried.{first_found, none_found, true_none}
 
 pub ruleset row_from_rules = (true_none, first_found, none_found, searched)
 
-pub ruleset prove_rules = (none_kept, is_proof, levels_short, gate_crowded)
+pub ruleset prove_rules = (none_kept, is_proof, open_short, gate_crowded)
 
 pub ruleset is_refuted_rules = (state_first, none_kept, kept_least, levels_short, gate_crowded)
 

@@ -192,8 +192,3 @@ searched k s a b n most left left_after others kinds e same h =
 pub searched_less : (k : Kinds) (most units fewer others same : ℕ) → fewer ≤ units → others ≡ same → AreSearched k most units others → AreSearched k most fewer same
 searched_less k most units fewer others same less e h =
     record { bounds = h.bounds; tries = h.tries; different = h.different; each = h.each; tried = h.tried; within = h.within; tried_within = h.tried_within; few = omega (arith, h.few, e); many = omega (arith, h.many, less, e) }
-
--- where there was no unit
-pub searched_none : (k : Kinds) (most units others : ℕ) → units ≡ 0 → AreSearched k most units others
-searched_none k most units others e =
-    record { bounds = []; tries = []; different = pairs_none Differ; each = All-nil (IsBounded k most); tried = All-nil (IsTry k); within = All-nil (IsBoundWithin k most); tried_within = All-nil (IsTryWithin k most); few = omega arith; many = omega (arith, e) }

@@ -6,7 +6,7 @@ use Rattle.cell_num.specs.declared.finger.Fingers.{Fingers}
 use Rattle.trail_state.specs.declared.level.Level.{Level}
 use Rattle.trail_log.specs.declared.trails.TrailCertificate.{TrailCertificate}
 use Rattle.trail_check.specs.declared.lemma.TrailLemma.{TrailLemma}
-use Rattle.trail_check.specs.Leveled.{levels_of}
+use Rattle.trail_check.specs.Leveled.{levels_for}
 use Rattle.trail_check.specs.Listed.{lemmas_listed}
 use Rattle.trail_search.specs.declared.kept.Kept.{Kept}
 use Rattle.trail_search.specs.Proof.{AreSpent, lemma_units}
@@ -82,9 +82,9 @@ pub tied_then : (levels : List Level) (a b c : Kept) (left left_on left_after be
 tied_then levels a b c left left_on left_after behind others went h more = record { few = omega (arith, went, h.few); many = omega (arith, went, h.many, more) }
 
 -- the lines of a certificate list the lemmas
-pub spent_is : (f : Fingers) (levels : List Level) (trails : TrailCertificate) (before after : Kept) (left left_after others most : ℕ) → levels ≡ levels_of f trails.order → AreKept levels after → trails.lemmas ≡ after.lines → before.lemmas ≡ [] → others ≡ most → AreTied levels before after left left_after others → AreSpent f left left_after most trails
+pub spent_is : (f : Fingers) (levels : List Level) (trails : TrailCertificate) (before after : Kept) (left left_after others most : ℕ) → levels ≡ levels_for f trails → AreKept levels after → trails.lemmas ≡ after.lines → before.lemmas ≡ [] → others ≡ most → AreTied levels before after left left_after others → AreSpent f left left_after most trails
 spent_is f levels trails before after left left_after others most same h lines none few tied =
-    let listed : lemmas_listed (levels_of f trails.order) trails.lemmas ≡ after.lemmas = ap (λ (ls : List Level). lemmas_listed ls trails.lemmas) (sym same) ∙ ap (lemmas_listed levels) lines ∙ h.listed in
-    let told : lemma_units f trails ≡ units_of levels after.lemmas = ap (units_of (levels_of f trails.order)) listed ∙ ap (λ (ls : List Level). units_of ls after.lemmas) (sym same) in
+    let listed : lemmas_listed (levels_for f trails) trails.lemmas ≡ after.lemmas = ap (λ (ls : List Level). lemmas_listed ls trails.lemmas) (sym same) ∙ ap (lemmas_listed levels) lines ∙ h.listed in
+    let told : lemma_units f trails ≡ units_of levels after.lemmas = ap (units_of (levels_for f trails)) listed ∙ ap (λ (ls : List Level). units_of ls after.lemmas) (sym same) in
     let first : units_of levels before.lemmas ≡ 0 = units_none levels before.lemmas none in
     record { few = omega (arith, told, first, tied.few); many = omega (arith, told, first, few, tied.many) }

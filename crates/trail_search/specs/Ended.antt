@@ -1,10 +1,9 @@
 -- How a search ended: with the first least row and its certificate, or with what is proved without a row.
-use Rattle.std.specs.Prelude.{ℕ, ◌≡◌, ◌≤◌, ◌<◌, ◌+◌, ◌-◌, ◌⊎◌, true, List, None, IsNone}
+use Rattle.std.specs.Prelude.{ℕ, ◌≡◌, ◌≤◌, ◌+◌, ◌-◌, ◌⊎◌, true, List, [], None, IsNone}
 use Rattle.cell_num.specs.declared.net.NetNo.{NetNo}
 use Rattle.cell_num.specs.declared.finger.Fingers.{Fingers}
 use Rattle.cell_num.specs.Fingers.{columns_of}
 use Rattle.row_model.specs.declared.column.Column.{Column}
-use Rattle.row_model.specs.Arrangement.{IsArrangement}
 use Rattle.row_model.specs.Gaps.{gaps_of}
 use Rattle.row_state.specs.declared.kind.Kinds.{Kinds}
 use Rattle.log_check.specs.Accepted.{Lists, WithKinds}
@@ -13,7 +12,9 @@ use Rattle.trail_log.specs.declared.trails.TrailCertificate.{TrailCertificate}
 use Rattle.trail_log.specs.Fits.{TrailsFit}
 use Rattle.trail_check.specs.Accepted.{IsAccepted, IsLow, first_unproved, least_gaps}
 use Rattle.trail_check.specs.Gates.{AreGates, HasFewWays, has_many_ways}
-use Rattle.trail_search.specs.Proof.{HasNew, HasReached, IsMost, gate_units, lemma_units}
+use Rattle.trail_check.specs.Leveled.{open_of}
+use Rattle.trail_check.specs.Rows.{AreFewestGaps}
+use Rattle.trail_search.specs.Proof.{HasNew, HasReached, gate_units, lemma_units}
 use Rattle.trail_search.specs.Searched.{AreSearched}
 use Rattle.trail_search.specs.declared.found.TrailFound.{TrailFound}
 use Rattle.trail_search.specs.declared.found.TrailStop.{TrailStop}
@@ -36,19 +37,24 @@ pub record IsTrailFound (f : Fingers) (budget : ℕ) (row : List Column) (trails
   pub reached : HasReached f trails (gaps_of row)
   pub kept : lemma_units f trails ≤ budget
 
--- every arrangement has more gaps
-abbrev pub HaveMore : Fingers → ℕ → Type 0
-HaveMore f gaps = (other : List Column) → IsArrangement other f → gaps < gaps_of other
-
 -- the units of the budget but those of a visit for each lemma, one at each gate and one at the end
 abbrev pub row_units : Fingers → ℕ → TrailCertificate → ℕ
-row_units f budget trails = budget - (lemma_units f trails + gate_units f trails.order + 1)
+row_units f budget trails = budget - (lemma_units f trails + gate_units f trails + 1)
 
--- The certificate lists no row. Its gates are as a checker asks, and all its lemmas are justified: they prove that no
--- arrangement has fewer gaps. No lemma is said by an earlier one, and each is on a state that is reached while a row of
--- at most these gaps is looked for. The budget has the units of a visit for each lemma. They are all its units, except
--- those of one visit at each gate; or no lemmas in this order prove more gaps. No arrangement has as few gaps; or the
--- units for rows, except one of each column, went for bounds of states, and for attempts to refute states by trails.
+-- the units went for lemmas, but for those of one visit at each gate at most
+abbrev pub WentForLemmas : Fingers → ℕ → TrailCertificate → Type 0
+WentForLemmas f budget trails = budget ≤ lemma_units f trails + gate_units f trails
+
+-- What is proved is the fewest gaps of all arrangements, where no gate is left open. The units for rows, except one of
+-- each column, went for bounds of states, and for attempts to refute states by trails.
+pub record WentForRows (f : Fingers) (budget : ℕ) (trails : TrailCertificate) (proved : ℕ) : Type 0 where
+  pub fewest : (open_of f trails).gates ≡ [] → AreFewestGaps f proved
+  pub searched : WithKinds f (λ k. AreSearched k (proved + 1) (row_units f budget trails) (columns_of f))
+
+-- The budget is spent. The certificate lists no row. Its gates are as a checker asks, and all its lemmas are justified:
+-- they prove that no arrangement has fewer gaps. No lemma is said by an earlier one, and each is on a state that is
+-- reached while a row of at most these gaps is looked for. The budget has the units of a visit for each lemma. Its
+-- other units went for rows; or there are none, except those of one visit at each gate.
 pub record IsTrailSpent (f : Fingers) (budget : ℕ) (trails : TrailCertificate) (proved : ℕ) : Type 0 where
   pub lists_none : IsNone trails.best
   pub gates : AreGates f trails
@@ -60,11 +66,9 @@ pub record IsTrailSpent (f : Fingers) (budget : ℕ) (trails : TrailCertificate)
   pub low : IsLow f proved
   pub fits : WithKinds f (λ k. TrailsFit k trails)
   pub kept : lemma_units f trails ≤ budget
-  pub work : (budget ≤ lemma_units f trails + gate_units f trails.order) ⊎ IsMost f trails.order proved
-  pub rows : HaveMore f proved
-      ⊎ WithKinds f (λ k. AreSearched k (proved + 1) (row_units f budget trails) (columns_of f))
+  pub work : WentForLemmas f budget trails ⊎ WentForRows f budget trails proved
 
--- the fingers of the gate pair in more ways than a checker lists
+-- The fingers of the gate pair in more ways than a checker lists. Whether it could be left open is not said.
 abbrev pub IsCrowded : Fingers → NetNo → Type 0
 IsCrowded f gate = has_many_ways f gate ≡ true
 

@@ -2,6 +2,7 @@
 pub mod Behind
 pub mod Ended
 pub mod Searched
+pub mod Filling
 pub mod Proof
 pub mod Reached
 pub mod Search

@@ -1,22 +1,23 @@
 -- What lemmas prove of every arrangement of some fingers, and how the search for them ends.
-use Rattle.std.specs.Prelude.{ℕ, ◌≡◌, ◌≤◌, ◌+◌, ◌*◌, ◌==◌, ◌⊎◌, Bool, true, not, List, [], None, map}
-use Rattle.std.specs.List.{filter, range_with_len}
+use Rattle.std.specs.Prelude.{ℕ, ◌≡◌, ◌≤◌, ◌+◌, ◌*◌, ◌⊎◌, true, List, [], None}
 use Rattle.cell_num.specs.declared.net.NetNo.{NetNo}
 use Rattle.cell_num.specs.declared.finger.Fingers.{Fingers}
-use Rattle.cell_num.specs.Fingers.{on_gate}
 use Rattle.row_model.specs.declared.column.Column.{Column}
 use Rattle.row_model.specs.Arrangement.{IsArrangement}
 use Rattle.row_model.specs.Gaps.{gaps_of}
 use Rattle.row_state.specs.declared.kind.Kinds.{Kinds}
 use Rattle.trail_log.specs.declared.trails.TrailCertificate.{TrailCertificate}
 use Rattle.trail_log.specs.Fits.{TrailsFit}
+use Rattle.trail_state.specs.declared.level.Level.{Level}
 use Rattle.trail_state.specs.Levels.{Ends, IsOrder}
+use Rattle.open_gates.specs.Leveled.{levels_of}
 use Rattle.trail_check.specs.Accepted.{first_unproved, least_gaps}
 use Rattle.trail_check.specs.declared.lemma.TrailLemma.{TrailLemma}
 use Rattle.trail_check.specs.Gates.{AreGates, HasFewWays, first_with_many, has_many_ways}
 use Rattle.trail_check.specs.Justified.{unproved}
-use Rattle.trail_check.specs.Leveled.{levels_of}
+use Rattle.trail_check.specs.Leveled.{levels_for}
 use Rattle.trail_check.specs.Listed.{lemmas_listed}
+use Rattle.trail_search.specs.Filling.{filled_gates, opened_gates}
 use Rattle.trail_search.specs.Reached.{AreReached}
 use Rattle.trail_search.specs.Search.{AreNew}
 use Rattle.trail_search.specs.Units.{listed_units, path_units, units_of}
@@ -26,25 +27,18 @@ use Rattle.trail_search.specs.declared.proof.Proof.{Proof}
 use Rattle.trail_search.specs.declared.proof.ProveStop.{ProveStop}
 use Rattle.trail_search.specs.declared.proof.ProveStop.TheVariants as stopped
 
--- more fingers of the gate in one row than in the other
-abbrev pub is_uneven : Fingers → ℕ → Bool
-is_uneven f gate = not (on_gate gate f.p == on_gate gate f.n)
-
--- the gates with half columns, in the order of their numbers
-abbrev pub uneven_gates : Fingers → List NetNo
-uneven_gates f = map (λ g. record { 0 = g }) (filter (is_uneven f) (range_with_len 0 f.nets))
-
 -- no lemma of the certificate is said by an earlier one
 abbrev pub HasNew : Fingers → TrailCertificate → Type 0
-HasNew f trails = AreNew (levels_of f trails.order) (lemmas_listed (levels_of f trails.order) trails.lemmas)
+HasNew f trails = AreNew (levels_for f trails) (lemmas_listed (levels_for f trails) trails.lemmas)
 
 -- its lemmas are on states that are reached while a row of at most that many gaps is looked for
 abbrev pub HasReached : Fingers → TrailCertificate → ℕ → Type 0
 HasReached f trails gaps =
-    AreReached (levels_of f trails.order) gaps (lemmas_listed (levels_of f trails.order) trails.lemmas)
+    AreReached (levels_for f trails) gaps (lemmas_listed (levels_for f trails) trails.lemmas)
 
 -- A certificate that is accepted but for a row, which it does not list; and what its lemmas prove of every row. They
--- are new, each of them, and on states that are reached. A text can hold it.
+-- are new, each of them, and on states that are reached. Gates with half columns that have too many ways are left open,
+-- as many as have more fingers in one row. A text can hold it.
 pub record IsProof (f : Fingers) (proof : Proof) : Type 0 where
   pub gates : AreGates f proof.trails
   pub few_ways : HasFewWays f proof.trails
@@ -52,15 +46,20 @@ pub record IsProof (f : Fingers) (proof : Proof) : Type 0 where
   pub new : HasNew f proof.trails
   pub reached : HasReached f proof.trails proof.gaps
   pub rowless : proof.trails.best ≡ None
-  pub fill : proof.trails.fill ≡ uneven_gates f
+  pub opened : proof.opened ≡ opened_gates f proof.trails.order
+  pub fill : proof.trails.fill ≡ filled_gates f proof.trails.order
   pub gaps : proof.gaps ≡ least_gaps f proof.trails
   pub least : (row : List Column) → IsArrangement row f → proof.gaps ≤ gaps_of row
   pub fits : (k : Kinds) → k.nets ≡ f.nets → TrailsFit k proof.trails
 
--- Some choices along the order come to no more ends than a row of so many gaps has. So no lemmas in this order prove
--- more gaps.
+-- Some choices along the levels come to no more ends than a row of so many gaps has. So no lemmas over these levels
+-- prove more gaps.
+abbrev pub IsMostOf : List Level → ℕ → Type 0
+IsMostOf levels gaps = Ends levels [] (2 * (gaps + 1) + 1) → ⊥
+
+-- so it is of an order where each gate is filled
 abbrev pub IsMost : Fingers → List NetNo → ℕ → Type 0
-IsMost f order gaps = Ends (levels_of f order) [] (2 * (gaps + 1) + 1) → ⊥
+IsMost f order gaps = IsMostOf (levels_of f order) gaps
 
 -- so it is in some order of the gates
 abbrev pub HasMost : Fingers → ℕ → Type 0
@@ -69,11 +68,11 @@ HasMost f gaps = (order : List NetNo) × IsOrder f order × IsMost f order gaps
 -- the units of one visit for each lemma of the certificate
 abbrev pub lemma_units : Fingers → TrailCertificate → ℕ
 lemma_units f trails =
-    units_of (levels_of f trails.order) (lemmas_listed (levels_of f trails.order) trails.lemmas)
+    units_of (levels_for f trails) (lemmas_listed (levels_for f trails) trails.lemmas)
 
 -- the units of one visit at each gate
-abbrev pub gate_units : Fingers → List NetNo → ℕ
-gate_units f order = path_units (levels_of f order)
+abbrev pub gate_units : Fingers → TrailCertificate → ℕ
+gate_units f trails = path_units (levels_for f trails)
 
 -- of the units that were left a search took those of each lemma, and at most so many others
 pub record AreSpent (f : Fingers) (left left_after others : ℕ) (trails : TrailCertificate) : Type 0 where
@@ -84,7 +83,7 @@ pub record AreSpent (f : Fingers) (left left_after others : ℕ) (trails : Trail
 pub record IsUnfinished (f : Fingers) (left left_after : ℕ) (proof : Proof) : Type 0 where
   pub none : left_after ≡ 0
   pub proved : IsProof f proof
-  pub units : AreSpent f left left_after (gate_units f proof.trails.order) proof.trails
+  pub units : AreSpent f left left_after (gate_units f proof.trails) proof.trails
 
 -- lemmas over an order of the gates, to refute that a row has at most that many gaps
 pub record Attempt : Type 0 where
@@ -103,7 +102,7 @@ pub record IsAttempt (f : Fingers) (a : Attempt) : Type 0 where
 abbrev pub attempt_units : Fingers → Attempt → ℕ
 attempt_units f a =
     listed_units (first_with_many f a.order) (levels_of f a.order)
-    + units_of (levels_of f a.order) a.lemmas + gate_units f a.order + 1
+    + units_of (levels_of f a.order) a.lemmas + path_units (levels_of f a.order) + 1
 
 -- the units went for an attempt to refute the limit
 pub record HasAttempted (f : Fingers) (limit left left_after : ℕ) : Type 0 where

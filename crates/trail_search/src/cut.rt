@@ -58,10 +58,12 @@ fn trails_refute(
     }
 }
 
-/// Whether it is proved that every completion of the state has more further gaps than are allowed.
+/// Whether it is proved that every completion of the state has more further gaps than are allowed: by bounds on both
+/// rows, and where `tries` by trails.
 #[tactic(auto, using(crate::proofs::Spent::tries_none))]
 pub(crate) fn exceeds_allowed(
     alloc: Global,
+    tries: bool,
     state: &State,
     kinds: &Kinds,
     allowed: u32,
@@ -77,6 +79,9 @@ pub(crate) fn exceeds_allowed(
 {
     if is_above(Row::P, state, kinds, allowed) || is_above(Row::N, state, kinds, allowed) {
         return Ok(true);
+    }
+    if !tries {
+        return Ok(false);
     }
     trails_refute(alloc, state, kinds, allowed, left)
 }

@@ -18,6 +18,8 @@ pub(crate) struct Task<'a> {
     pub kinds: &'a Kinds,
     /// All columns that may come next in some state.
     pub candidates: &'a [Candidate],
+    /// Whether trails are tried to refute states.
+    pub tries: bool,
 }
 
 /// The first completion of the state with as few gaps as are allowed, its last step first, or none. What is known of
@@ -54,7 +56,7 @@ pub(crate) fn visit(
     if !has_fingers(&at.state) {
         return Ok(Some(Steps::new(task.alloc)));
     }
-    if exceeds_allowed(task.alloc, &at.state, task.kinds, allowed, left)? {
+    if exceeds_allowed(task.alloc, task.tries, &at.state, task.kinds, allowed, left)? {
         known.note_at(at.code, allowed + 1)?;
         return Ok(None);
     }

@@ -40,6 +40,7 @@ fn row_from(
     alloc: Global,
     kinds: &Kinds,
     gaps: u32,
+    tries: bool,
     left: &mut u64,
     first: &Numbered,
 ) -> Result<Option<ListedRow>, Halt>
@@ -59,6 +60,7 @@ fn row_from(
         alloc,
         kinds,
         candidates: candidates.as_slice(),
+        tries,
     };
     let mut known = Known::new(alloc);
     let visited = visit(&task, &mut known, left, first, gaps);
@@ -70,11 +72,12 @@ fn row_from(
     }
 }
 
-/// The first row that has at most this number of gaps, or none.
+/// The first row that has at most this number of gaps, or none. Where `tries`, trails are tried at its states.
 pub(crate) fn first_row(
     alloc: Global,
     kinds: &Kinds,
     gaps: u32,
+    tries: bool,
     left: &mut u64,
 ) -> Result<Option<ListedRow>, Halt>
     requires few { gaps ≤ MOST_COLUMNS }
@@ -86,7 +89,7 @@ pub(crate) fn first_row(
         (columns_left kinds.now (start_of kinds.now)))) }
 {
     let first = Numbered::new(start(alloc, kinds)?, kinds);
-    let row = row_from(alloc, kinds, gaps, left, &first);
+    let row = row_from(alloc, kinds, gaps, tries, left, &first);
     drop(first);
     row
 }

@@ -13,8 +13,8 @@ pub struct TrailFound {
 /// Why a search ended without a row.
 #[derive(Debug, Drop)]
 pub enum TrailStop {
-    /// The lemmas of the certificate, which lists no row, prove that each arrangement has at least `proved` gaps. The
-    /// budget is spent, or no arrangement has as few.
+    /// The budget is spent. The lemmas of the certificate, which lists no row, prove that each arrangement has at least
+    /// `proved` gaps.
     Unfinished {
         trails: TrailCertificate,
         proved: u32,

@@ -1,11 +1,20 @@
-ghost use Rattle.std.specs.Prelude.{◌≡◌, IfOk};
-ghost use Rattle.trail_search.specs.Proof.{is_uneven, uneven_gates};
+ghost use Rattle.std.specs.Prelude.{◌≡◌, All, IfOk, not};
+ghost use Rattle.std.specs.List.{filter};
+ghost use Rattle.cell_num.specs.Fingers.{AreFingers};
+ghost use Rattle.open_gates.specs.Leveled.{levels_in};
+ghost use Rattle.open_gates.specs.Listed.{HasFewNodes};
+ghost use Rattle.open_gates.specs.Open.{closed_in, has_more, open_in};
+ghost use Rattle.trail_check.specs.Gates.{first_with_many};
+ghost use Rattle.trail_search.specs.Filling.{crowded_gates, is_crowded, is_one_of, is_uneven};
+ghost use Rattle.trail_search.specs.Filling.{longer_gates, opened_gates, uneven_gates};
 ghost use Rattle.trail_search.specs.Order.{gates_of, has_finger};
 
-use cell_num::{Fingers, List, NetNo, NoMemory};
+use cell_num::{Fingers, List, NetNo, NoMemory, Row};
+use open_gates::{OpenGates, closed_gates, has_more, open_levels, row_of};
 use std::alloc::{AllocError, Global};
+use trail_check::{first_with_many, has_many_ways};
 use trail_log::NetList;
-use trail_state::count_on;
+use trail_state::{Level, count_on};
 
 fn has_finger(fingers: &Fingers, gate: u32) -> bool
     ensures { result ≡ has_finger fingers.now gate }
@@ -38,9 +47,115 @@ fn uneven(alloc: Global, fingers: &Fingers) -> Result<Vec<NetNo>, AllocError>
         .collect(alloc)
 }
 
-/// The gates with half columns, which are filled.
-pub(crate) fn fill(alloc: Global, fingers: &Fingers) -> Result<NetList, NoMemory>
-    ensures { IfOk result (λ gates. gates ≡ uneven_gates fingers.now) }
+fn is_crowded(alloc: Global, fingers: &Fingers, gate: &NetNo) -> Result<bool, NoMemory>
+    requires { AreFingers fingers.now }
+    ensures { IfOk result (λ yes. yes ≡ is_crowded fingers.now gate.now) }
 {
-    Ok(List::from_vec(uneven(alloc, fingers)?))
+    if !is_uneven(fingers, gate.0) {
+        return Ok(false);
+    }
+    has_many_ways(alloc, fingers, gate)
+}
+
+fn crowded(alloc: Global, fingers: &Fingers, order: &[NetNo]) -> Result<NetList, NoMemory>
+    requires { AreFingers fingers.now }
+    ensures { IfOk result (λ gates. gates ≡ crowded_gates fingers.now order.now) }
+{
+    let mut gates = List::new(alloc);
+    for gate in order {
+        if is_crowded(alloc, fingers, gate)? {
+            gates.push(*gate)?;
+        }
+    }
+    Ok(gates)
+}
+
+fn having_more(
+    alloc: Global,
+    row: Row,
+    fingers: &Fingers,
+    gates: &[NetNo],
+) -> Result<Vec<NetNo>, AllocError>
+    ensures { IfOk result (λ all. all.items ≡ filter (has_more row fingers.now) gates.now) }
+{
+    gates
+        .iter()
+        .copied()
+        .filter(|gate| has_more(row, fingers, gate))
+        .collect(alloc)
+}
+
+fn longer(alloc: Global, fingers: &Fingers, gates: &[NetNo]) -> Result<Vec<NetNo>, AllocError>
+    ensures { IfOk result (λ all. all.items ≡ longer_gates fingers.now gates.now) }
+{
+    let row = row_of(fingers, gates);
+    let all = having_more(alloc, row, fingers, gates)?;
+    Ok(all)
+}
+
+fn is_one_of(gates: &[NetNo], gate: &NetNo) -> bool
+    ensures { result ≡ is_one_of gates.now gate.now }
+{
+    gates.iter().any(|other| other.0 == gate.0)
+}
+
+fn others(alloc: Global, gates: &[NetNo], some: &[NetNo]) -> Result<Vec<NetNo>, AllocError>
+    ensures { IfOk result (λ all. all.items ≡ filter (λ gate. not (is_one_of some.now gate)) gates.now) }
+{
+    gates
+        .iter()
+        .copied()
+        .filter(|gate| !is_one_of(some, gate))
+        .collect(alloc)
+}
+
+/// The gates with half columns that are left open, since they have too many ways: those with more fingers in the row
+/// of the first of them.
+pub(crate) fn opened(alloc: Global, fingers: &Fingers, order: &NetList) -> Result<NetList, NoMemory>
+    requires { AreFingers fingers.now }
+    ensures { IfOk result (λ gates. gates ≡ opened_gates fingers.now order.now) }
+{
+    let gates = crowded(alloc, fingers, order.as_slice())?;
+    let longer = longer(alloc, fingers, gates.as_slice())?;
+    Ok(List::from_vec(longer))
+}
+
+/// The gates with half columns that are filled: all but these.
+pub(crate) fn fill(alloc: Global, fingers: &Fingers, opened: &NetList) -> Result<NetList, NoMemory>
+    ensures { IfOk result (λ gates. gates ≡
+        filter (λ gate. not (is_one_of opened.now gate)) (uneven_gates fingers.now)) }
+{
+    let gates = uneven(alloc, fingers)?;
+    let filled = others(alloc, gates.as_slice(), opened.as_slice())?;
+    Ok(List::from_vec(filled))
+}
+
+/// The first gate of the order that is not left open and has too many ways.
+pub(crate) fn first_crowded(
+    alloc: Global,
+    fingers: &Fingers,
+    fill: &NetList,
+    order: &NetList,
+) -> Result<Option<NetNo>, NoMemory>
+    requires { AreFingers fingers.now }
+    ensures { IfOk result (λ first. first ≡ first_with_many fingers.now (closed_in fingers.now fill.now order.now)) }
+{
+    let closed = closed_gates(alloc, fingers, fill.as_slice(), order.as_slice())?;
+    first_with_many(alloc, fingers, closed.as_slice())
+}
+
+/// The levels of the order, where these gates are filled.
+pub(crate) fn levels(
+    alloc: Global,
+    fingers: &Fingers,
+    fill: &NetList,
+    order: &NetList,
+) -> Result<List<Level>, NoMemory>
+    requires { AreFingers fingers.now }
+    ensures is { IfOk result (λ levels.
+        levels ≡ levels_in fingers.now (open_in fingers.now fill.now order.now) order.now) }
+    ensures nodes { IfOk result (All HasFewNodes) }
+{
+    let opened = OpenGates::unfilled(alloc, fingers, fill.as_slice(), order.as_slice())?;
+    open_levels(alloc, fingers, &opened, order.as_slice())
 }

@@ -2,19 +2,19 @@ ghost use Rattle.std.specs.Prelude.{◌≡◌, ◌≤◌, ◌<◌, ◌+◌, ◌*
 ghost use Rattle.cell_num.specs.Fingers.{AreFingers};
 ghost use Rattle.trail_state.specs.Levels.{Ends};
 ghost use Rattle.trail_check.specs.Justified.{ends_proved, gaps_proved};
-ghost use Rattle.trail_search.specs.Proof.{AreSpent, IsMost, IsProof, StopsProving, gate_units};
+ghost use Rattle.trail_check.specs.Leveled.{levels_for};
+ghost use Rattle.trail_search.specs.Proof.{AreSpent, IsMostOf, IsProof, StopsProving, gate_units};
 ghost use Rattle.trail_search.specs.Reached.{AreReached};
 ghost use Rattle.trail_search.specs.Search.{AreChained, AreKept, AreSmall, AreTied, IsFurther};
 ghost use Rattle.trail_search.specs.Units.{path_units};
 
-use crate::gates::fill;
+use crate::gates::{fill, first_crowded, levels, opened};
 use crate::kept::Kept;
 use crate::order::order;
 use crate::proof::{Proof, ProveStop};
 use crate::visit::visit;
 use cell_num::{Fingers, Halt, List, NoMemory};
 use std::alloc::Global;
-use trail_check::{first_with_many, levels_of};
 use trail_log::TrailCertificate;
 use trail_state::{Level, TrailState};
 
@@ -73,23 +73,25 @@ fn refute_limits(
 pub(crate) fn prove(alloc: Global, fingers: &Fingers, left: &mut u64) -> Result<Proof, ProveStop>
     requires fingers { AreFingers fingers.now }
     ensures proof { IfOk result (IsProof fingers.now) }
-    ensures most { IfOk result (λ proof. proof.gaps < 31 → IsMost fingers.now proof.trails.order proof.gaps) }
+    ensures most { IfOk result (λ proof. proof.gaps < 31 → IsMostOf (levels_for fingers.now proof.trails) proof.gaps) }
     ensures left { left.new ≤ left.old }
     ensures units { IfOk result (λ proof.
-        AreSpent fingers.now left.old left.new (gate_units fingers.now proof.trails.order + 1) proof.trails) }
+        AreSpent fingers.now left.old left.new (gate_units fingers.now proof.trails + 1) proof.trails) }
     ensures stopped { IfErr result (StopsProving fingers.now left.old left.new) }
 {
     let order = order(alloc, fingers)?;
-    let crowded = first_with_many(alloc, fingers, order.as_slice())?;
+    let opened = opened(alloc, fingers, &order)?;
+    let fill = fill(alloc, fingers, &opened)?;
+    let crowded = first_crowded(alloc, fingers, &fill, &order)?;
     if let Some(gate) = crowded {
         return Err(ProveStop::Choices { gate });
     }
-    let fill = fill(alloc, fingers)?;
-    let levels = levels_of(alloc, fingers, order.as_slice())?;
+    let levels = levels(alloc, fingers, &fill, &order)?;
     let mut kept = Kept::new(alloc);
     let whole = refute_limits(alloc, &levels, &mut kept, left)?;
     let proof = Proof {
         gaps: kept.gaps(),
+        opened,
         trails: TrailCertificate {
             fill,
             order,

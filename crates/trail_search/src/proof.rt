@@ -1,12 +1,14 @@
 ghost use Rattle.std.specs.Prelude.{◌≡◌};
 
 use cell_num::{NetNo, NoMemory};
-use trail_log::TrailCertificate;
+use trail_log::{NetList, TrailCertificate};
 
 /// A certificate without a row: its lemmas prove that every arrangement of some fingers has at least `gaps` gaps.
 #[derive(Debug, Drop)]
 pub(crate) struct Proof {
     pub trails: TrailCertificate,
+    /// The gates that are left open, since they have too many ways.
+    pub opened: NetList,
     pub gaps: u32,
 }
 

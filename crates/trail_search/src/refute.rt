@@ -12,8 +12,9 @@ use crate::proof::RefuteStop;
 use crate::units::{CROWDED_UNITS, listed_units, take};
 use crate::visit::visit;
 use cell_num::{Fingers, Halt};
+use open_gates::levels_of;
 use std::alloc::Global;
-use trail_check::{first_with_many, levels_of};
+use trail_check::first_with_many;
 use trail_state::TrailState;
 
 /// Whether it is proved that every arrangement of the fingers has more than `limit` gaps: a limit up to 30 is refuted

@@ -1,4 +1,4 @@
-ghost use Rattle.std.specs.Prelude.{◌≡◌, IfErr, IfOk};
+ghost use Rattle.std.specs.Prelude.{◌≡◌, IfErr, IfOk, slice_get};
 ghost use Rattle.cell_num.specs.Fingers.{AreFingers};
 ghost use Rattle.trail_search.specs.declared.found.TrailStop.TheVariants as stopped;
 ghost use Rattle.trail_search.specs.Ended.{IsFound, Stops};
@@ -9,7 +9,7 @@ use crate::limits::prove;
 use crate::proof::{Proof, ProveStop};
 use crate::{TrailFound, TrailStop};
 use bound_log::Best;
-use cell_num::{Fingers, Halt};
+use cell_num::{Fingers, Halt, NetNo};
 use row_state::kinds;
 use std::alloc::Global;
 use trail_log::TrailCertificate;
@@ -34,6 +34,12 @@ fn unfinished(proof: Proof) -> TrailStop
     }
 }
 
+fn first_opened(proof: &Proof) -> Option<NetNo>
+    ensures { result ≡ slice_get proof.now.opened 0 }
+{
+    proof.opened.as_slice().first().copied()
+}
+
 /// The first least arrangement of the fingers, and a certificate by trails that proves that none has fewer gaps; or
 /// what is proved when the budget is spent. A visit of a state takes one unit of it, where nothing kept says that the
 /// state fails. A visit along trails takes one more for each 64 choices of the next gate. So does a list of the choices
@@ -51,12 +57,17 @@ pub fn search_trails(alloc: Global, fingers: &Fingers, budget: u64) -> Result<Tr
         Err(ProveStop::Choices { gate }) => return Err(TrailStop::Choices { gate }),
         Err(ProveStop::NoMemory) => return Err(TrailStop::NoMemory),
     };
-    match first_row(alloc, &kinds, proof.gaps, &mut left) {
+    let tries = proof.opened.len() == 0;
+    match first_row(alloc, &kinds, proof.gaps, tries, &mut left) {
         Ok(Some(first)) => Ok(TrailFound {
             row: first.row,
             trails: with_row(proof.trails, first.best),
         }),
-        Ok(None) => Err(unfinished(proof)),
+        // With no gate left open, some row has as few gaps as the lemmas prove.
+        Ok(None) => match first_opened(&proof) {
+            Some(gate) => Err(TrailStop::Choices { gate }),
+            None => unreachable!(),
+        },
         Err(Halt::Spent) => Err(unfinished(proof)),
         Err(Halt::NoMemory) => Err(TrailStop::NoMemory),
     }

@@ -1,5 +1,7 @@
-ghost use Rattle.std.specs.Prelude.{◌≡◌, ◌≤◌, ◌+◌, true, false, IfOk, IfErr, drop, length, slice_get};
+ghost use Rattle.std.specs.Prelude.{◌≡◌, ◌≤◌, ◌+◌, true, false, IfOk, IfErr, IsTrue, drop};
+ghost use Rattle.std.specs.Prelude.{◌<◌, length, slice_get};
 ghost use Rattle.trail_state.specs.Levels.{Ends};
+ghost use Rattle.trail_check.specs.Closing.{odd_ends};
 ghost use Rattle.trail_check.specs.Justified.{is_known};
 ghost use Rattle.trail_check.specs.Listed.{nodes_of};
 ghost use Rattle.cell_num.specs.declared.halt.Halt.TheVariants as halt;
@@ -11,7 +13,15 @@ use crate::kept::Kept;
 use crate::units::{take, units_at};
 use cell_num::{Halt, List};
 use std::alloc::Global;
-use trail_state::{Level, TrailState, after};
+use trail_check::{ClosingNodes, closing_nodes, odd_ends};
+use trail_state::{Choice, Level, TrailState, after};
+
+// Whether more ends than are allowed are certain at the nodes that close.
+fn exceeds(closing: &ClosingNodes, choice: &Choice, allowed: u32) -> bool
+    ensures { IsTrue result → allowed < odd_ends closing.now choice.now }
+{
+    (allowed as usize) < odd_ends(closing, choice)
+}
 
 /// Whether some choices of the gates left have at most `allowed` more ends; else a kept lemma says that none do.
 /// A visit takes the units of its state from those left. It leaves a lemma, unless such choices are found or no unit is
@@ -56,7 +66,11 @@ pub(crate) fn visit(
     let Some(level) = levels.get(done as usize) else {
         return Ok(true);
     };
+    let closing = closing_nodes(alloc, level, state)?;
     for choice in level.choices.as_slice() {
+        if exceeds(&closing, choice, allowed) {
+            continue;
+        }
         let settled = after(
             alloc,
             level.now.as_slice(),

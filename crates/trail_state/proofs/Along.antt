@@ -77,10 +77,10 @@ start_follows nodes = record {
 }
 
 -- the same edges, in another order
-has_same : (c : ℕ → ℕ) (xs ys : List Finger) (h : ℕ) → IsPermutation xs ys → has_finger c xs h ≡ has_finger c ys h
+pub has_same : (c : ℕ → ℕ) (xs ys : List Finger) (h : ℕ) → IsPermutation xs ys → has_finger c xs h ≡ has_finger c ys h
 has_same c xs ys h p = list_any-IsPermutation (λ (f : Finger). c f.lo.0 == h) xs ys p
 
-odd_same : (xs ys : List Finger) (u : ℕ) → IsPermutation xs ys → is_odd xs u ≡ is_odd ys u
+pub odd_same : (xs ys : List Finger) (u : ℕ) → IsPermutation xs ys → is_odd xs u ≡ is_odd ys u
 odd_same xs ys u p = sym (ap parity (sum_by-IsPermutation (ends_on u) xs ys p))
 
 abbrev pub AreBelow : ℕ → Walk → Type 0

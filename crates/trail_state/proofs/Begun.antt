@@ -14,7 +14,7 @@ use Rattle.trail_state.proofs.Links.{class_of, unmet_alone, unmet_even}
 use Rattle.trail_state.proofs.Members.{At, Found, at_found, pairs_kept}
 
 -- a place of the state, or a new one
-abbrev Origin : List Place → List Edge → ℕ → Place → Type 0
+abbrev pub Origin : List Place → List Edge → ℕ → Place → Type 0
 Origin s c v p = (Contains s p × (p.node.0 ≡ v)) ⊎ ((At s v → ⊥) × (is_met c v ≡ true) × (p ≡ new_place v))
 
 abbrev at_node : ℕ → Place → Bool
@@ -83,7 +83,7 @@ module _ (c es : List Edge) (nodes : List Node) (s : List Place) (h : Follows es
   from : (p : Place) → Contains t p → Kept g nodes p
   from p k = kept_from g nodes p k
 
-  of : (p : Place) → Contains t p → Origin s c p.node.0 p
+  pub of : (p : Place) → Contains t p → Origin s c p.node.0 p
   of p k = let f : Kept g nodes p = from p k in named_by f.from.0 (origin s c f.from.0 p f.gives)
     where
       named_by : (v : ℕ) → Origin s c v p → Origin s c p.node.0 p

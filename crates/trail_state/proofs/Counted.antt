@@ -44,7 +44,7 @@ abbrev pub settled : ℕ → List Edge → List Node → ℕ
 settled n es nodes = size n (odd_shut es nodes) + 2 * size n (is_closed_at n es nodes)
 
 -- in a class without open and odd nodes there is none
-none_alive : (n : ℕ) (es : List Edge) (nodes : List Node) (h v : ℕ) → is_closed_at n es nodes h ≡ true → v < n → alive es nodes v ≡ true → class_of es v ≡ h → ⊥
+pub none_alive : (n : ℕ) (es : List Edge) (nodes : List Node) (h v : ℕ) → is_closed_at n es nodes h ≡ true → v < n → alive es nodes v ≡ true → class_of es v ≡ h → ⊥
 none_alive n es nodes h v closed within live class =
     let parts : (has_edge es h ≡ true) × ((size_in n (class_of es) (alive es nodes) h == 0) ≡ true) = and_parts (has_edge es h) (size_in n (class_of es) (alive es nodes) h == 0) closed in
     both_ways ((class_of es v == h) && alive es nodes v)

@@ -40,20 +40,20 @@ joined_name : (x y p : Place) → (joined_place x y p).class.0 ≡ name_joined x
 unfolding name_joined
 joined_name x y p = number_of (is_joined x y p) (min x.class.0 y.class.0) p.class
 
-joined_low : (x y p : Place) → is_joined x y p ≡ true → (joined_place x y p).class.0 ≡ min x.class.0 y.class.0
+pub joined_low : (x y p : Place) → is_joined x y p ≡ true → (joined_place x y p).class.0 ≡ min x.class.0 y.class.0
 joined_low x y p e = number_of (is_joined x y p) (min x.class.0 y.class.0) p.class ∙ ap (λ b. if b then min x.class.0 y.class.0 else p.class.0) e
 
-joined_stays : (x y p : Place) → is_joined x y p ≡ false → (joined_place x y p).class.0 ≡ p.class.0
+pub joined_stays : (x y p : Place) → is_joined x y p ≡ false → (joined_place x y p).class.0 ≡ p.class.0
 joined_stays x y p e = number_of (is_joined x y p) (min x.class.0 y.class.0) p.class ∙ ap (λ b. if b then min x.class.0 y.class.0 else p.class.0) e
 
-flag_joined : (x y p : Place) → is_joined x y p ≡ true → (joined_place x y p).flagged ≡ (x.flagged || y.flagged)
+pub flag_joined : (x y p : Place) → is_joined x y p ≡ true → (joined_place x y p).flagged ≡ (x.flagged || y.flagged)
 flag_joined x y p e = ap (λ b. if b then x.flagged || y.flagged else p.flagged) e
 
-flag_stays : (x y p : Place) → is_joined x y p ≡ false → (joined_place x y p).flagged ≡ p.flagged
+pub flag_stays : (x y p : Place) → is_joined x y p ≡ false → (joined_place x y p).flagged ≡ p.flagged
 flag_stays x y p e = ap (λ b. if b then x.flagged || y.flagged else p.flagged) e
 
 -- the place is of one of the two classes
-which : (x y p : Place) → is_joined x y p ≡ true → (p.class.0 ≡ x.class.0) ⊎ (p.class.0 ≡ y.class.0)
+pub which : (x y p : Place) → is_joined x y p ≡ true → (p.class.0 ≡ x.class.0) ⊎ (p.class.0 ≡ y.class.0)
 which x y p e = elim (or_cases (p.class.0 == x.class.0) (p.class.0 == y.class.0) e) [
   | inl a ↦ inl (eqb-true p.class.0 x.class.0 a)
   | inr b ↦ inr (eqb-true p.class.0 y.class.0 b)
@@ -75,19 +75,19 @@ turned false false false = refl
 
 -- the places of an edge's ends, and what holds of the list with the edge
 module _ (e : Edge) (es left : List Edge) (nodes : List Node) (t : List Place) (h : Follows es (e ∷ left) nodes t) where
-  abbrev x : Place
+  abbrev pub x : Place
   x = place_or_new t e.a.0
 
-  abbrev y : Place
+  abbrev pub y : Place
   y = place_or_new t e.b.0
 
-  abbrev g : Place → Place
+  abbrev pub g : Place → Place
   g p = joined_place x y p
 
-  x_at : IsAt t e.a.0 x
+  pub x_at : IsAt t e.a.0 x
   x_at = or_new_at t e.a.0 (h.coming e (contains_here e left)).0
 
-  y_at : IsAt t e.b.0 y
+  pub y_at : IsAt t e.b.0 y
   y_at = or_new_at t e.b.0 (h.coming e (contains_here e left)).1
 
   -- a place whose node is chained with one of the ends

@@ -86,13 +86,13 @@ have_nets : (f : Fingers) (cs : List Column) → ((c : Column) → Contains cs c
 have_nets f [] h = tt
 have_nets f (c ∷ cs) h = ((h c (contains_here c cs)).0, (h c (contains_here c cs)).1, have_nets f cs (λ d k. h d (contains_there c cs d k)))
 
-drop_next : (i : ℕ) (order : List NetNo) (g : NetNo) (gs : List NetNo) → drop i order ≡ g ∷ gs → drop (suc i) order ≡ gs
+pub drop_next : (i : ℕ) (order : List NetNo) (g : NetNo) (gs : List NetNo) → drop i order ≡ g ∷ gs → drop (suc i) order ≡ gs
 drop_next zero [] g gs e = absurd cc
 drop_next zero (x ∷ xs) g gs e = cc
 drop_next (suc i) [] g gs e = absurd cc
 drop_next (suc i) (x ∷ xs) g gs e = drop_next i xs g gs e
 
-any_later : (p : NetNo → Bool) (i : ℕ) (order : List NetNo) → list_any p (drop (suc i) order) ≡ true → list_any p (drop i order) ≡ true
+pub any_later : (p : NetNo → Bool) (i : ℕ) (order : List NetNo) → list_any p (drop (suc i) order) ≡ true → list_any p (drop i order) ≡ true
 any_later p zero [] e = e
 any_later p zero (x ∷ xs) e = or_right (p x) (list_any p xs) e
 any_later p (suc i) [] e = e
@@ -104,21 +104,21 @@ filter_none (x ∷ xs) = filter_none xs
 
 -- nodes below n
 module _ (n : ℕ) (big : 65536 ≤ n) (f : Fingers) (ok : AreFingers f) (order : List NetNo) (is_order : IsOrder f order) where
-  abbrev opens : ℕ → List Node
+  abbrev pub opens : ℕ → List Node
   opens i = open_nodes f (drop i order)
 
-  nodes : AreNodes n opens
+  pub nodes : AreNodes n opens
   nodes = record {
     differ = λ i. open_differ f (drop i order);
     fewer = λ i v e. let later : (any_can_meet f (drop (suc i) order) v ≡ true) × (v < 256 * f.nets) = open_is f (drop (suc i) order) v e in open_has f (drop i order) v (any_later (λ (g : NetNo). can_meet f g.0 v) i order later.0) later.1;
     below = λ i v e. omega (arith, (open_is f (drop i order) v e).1, ok.few_nets, big);
   }
 
-  no_nodes : open_nodes f [] ≡ []
+  pub no_nodes : open_nodes f [] ≡ []
   no_nodes = ap (map node_at) (filter_none (range_with_len 0 (256 * f.nets)))
 
   -- ends that every list of choices comes to are those of any such list
-  ends_true : (ls : List Level) (gs : List NetNo) (i : ℕ) (s : List Place) (k : ℕ) (cs : List (List Edge)) → AreLevels f gs ls → drop i order ≡ gs → AllZip (λ (l : Level) (c : List Edge). Contains l.choices c) ls cs → Ends ls s k → k ≤ ends_along n opens i s cs
+  pub ends_true : (ls : List Level) (gs : List NetNo) (i : ℕ) (s : List Place) (k : ℕ) (cs : List (List Edge)) → AreLevels f gs ls → drop i order ≡ gs → AllZip (λ (l : Level) (c : List Edge). Contains l.choices c) ls cs → Ends ls s k → k ≤ ends_along n opens i s cs
   ends_true [] gs i s k [] levels at listed h = omega (arith, h)
   ends_true [] gs i s k (c ∷ cs) levels at listed h = absurd listed
   ends_true (l ∷ ls) gs i s k [] levels at listed h = absurd listed
@@ -186,6 +186,9 @@ module _ (n : ℕ) (big : 65536 ≤ n) (f : Fingers) (ok : AreFingers f) (order 
     edges : AreEdgesOf f row (edges_of walk)
     edges = filled_edges f p_first n_first row arranges.columns nets p_first_in n_first_in
 
+    walk_below : AreBelow n walk
+    walk_below = filled_below n big f p_first n_first row (λ v e. net_small P f.nets f.p v ok.p ok.few_nets e) (λ v e. net_small N f.nets f.n v ok.n ok.few_nets e) nets p_first_in n_first_in
+
     -- one choice of each gate
     record Picks (gs : List NetNo) : Type 0 where
       pub cs : List (List Edge)
@@ -244,8 +247,7 @@ module _ (n : ℕ) (big : 65536 ≤ n) (f : Fingers) (ok : AreFingers f) (order 
         let count : length cs ≡ length order = AllZip-long (Picked f zs) order cs each in
         let last : opens (length cs + 0) ≡ [] = ap (open_nodes f) (drop_all (length cs + 0) order (omega (arith, count))) ∙ no_nodes in
         let end : settled n (all_added [] cs) (opens (length cs + 0)) ≡ settled n (all_added [] cs) [] = ap (λ v. settled n (all_added [] cs) v) last in
-        let below : AreBelow n walk = filled_below n big f p_first n_first row (λ v e. net_small P f.nets f.p v ok.p ok.few_nets e) (λ v e. net_small N f.nets f.n v ok.n ok.few_nets e) nets p_first_in n_first_in in
-        omega (arith, all, end, settled_least n (all_added [] cs) walk below (same_edges cs each), filled_breaks p_first n_first row)
+        omega (arith, all, end, settled_least n (all_added [] cs) walk walk_below (same_edges cs each), filled_breaks p_first n_first row)
 
     row_law : (ls : List Level) (k : ℕ) → AreLevels f order ls → Ends ls [] k → k ≤ 2 * (gaps_of row + 1)
     row_law ls k levels h =
@@ -262,6 +264,7 @@ levels_law f ok order is_order ls k levels h row arranges = row_least 65536 (ome
 pub record OfRow (f : Fingers) (order : List NetNo) (row : List Column) : Type 0 where
   pub walk : Walk
   pub few : breaks_of walk ≤ gaps_of row
+  pub below : AreBelow 65536 walk
   pub choices : List (List Edge)
   pub each : AllZip (λ (g : NetNo) (c : List Edge). IsChoice f g.0 c) order choices
   pub same : IsPermutation (edges_of walk) (all_added [] choices)
@@ -279,6 +282,7 @@ of_row f ok order is_order row arranges =
     record {
       walk = walk 65536 big f ok order is_order row arranges;
       few = filled_breaks (p_first 65536 big f ok order is_order row arranges) (n_first 65536 big f ok order is_order row arranges) row;
+      below = walk_below 65536 big f ok order is_order row arranges;
       choices = p.cs;
       each = all_choice f (zs 65536 big f ok order is_order row arranges) order p.cs p.each;
       same = chosen_edges 65536 big f ok order is_order row arranges p.cs p.each;

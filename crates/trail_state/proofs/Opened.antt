@@ -1,5 +1,5 @@
 -- The nodes that a choice of a gate meets are among those that the gate can meet.
-use Rattle.std.proofs.Common.{ℕ, ◌≡◌, ◌≢◌, ◌+◌, ◌*◌, ◌/◌, ◌%◌, ◌<◌, ◌≤◌, ◌==◌, ◌&&◌, ◌||◌, Bool, true, false, if◌then◌else◌, ltb, leb, max, List, [], ◌∷◌, length, Option, Some, None, option_map, refl, sym, ap, subst, arith, ◌∙◌, inl, inr, ◌⊎◌, All, AllPairs, Contains, get_or}
+use Rattle.std.proofs.Common.{ℕ, ◌≡◌, ◌≢◌, ◌+◌, ◌*◌, ◌/◌, ◌%◌, ◌<◌, ◌≤◌, ◌==◌, ◌&&◌, ◌||◌, Bool, true, false, if◌then◌else◌, ltb, leb, max, List, [], ◌∷◌, length, Option, Some, None, option_map, map, refl, sym, ap, subst, arith, ◌∙◌, inl, inr, ◌⊎◌, All, AllPairs, Contains, get_or}
 use Rattle.std.specs.List.{AllZip, cons_option, filter, range_with_len}
 use Rattle.std.proofs.lemmas.Bool.{and_from, cases_Bool, eq-eqb, eqb-true, lt-ltb, ne_eqb, or_cases, or_left, or_right}
 use Rattle.std.proofs.lemmas.List.Elements.{All-contains}
@@ -32,7 +32,7 @@ use Rattle.trail_state.specs.Nodes.{any_can_meet, can_meet, has_net, is_end_in, 
 use Rattle.trail_state.proofs.Walks.{ordered}
 
 -- what stands beside a member of the second list
-record Beside {X Y : Type 0} (R : X → Y → Type 0) (xs : List X) (y : Y) : Type 0 where
+pub record Beside {X Y : Type 0} (R : X → Y → Type 0) (xs : List X) (y : Y) : Type 0 where
   pub it : X
   pub there : Contains xs it
   pub holds : R it y
@@ -40,7 +40,7 @@ record Beside {X Y : Type 0} (R : X → Y → Type 0) (xs : List X) (y : Y) : Ty
 beside_more : {X Y : Type 0} (R : X → Y → Type 0) (x : X) (xs : List X) (y : Y) → Beside R xs y → Beside R (x ∷ xs) y
 beside_more R x xs y b = record { it = b.it; there = contains_there x xs b.it b.there; holds = b.holds }
 
-beside : {X Y : Type 0} (R : X → Y → Type 0) (xs : List X) (ys : List Y) (y : Y) → AllZip R xs ys → Contains ys y → Beside R xs y
+pub beside : {X Y : Type 0} (R : X → Y → Type 0) (xs : List X) (ys : List Y) (y : Y) → AllZip R xs ys → Contains ys y → Beside R xs y
 beside R [] [] y zipped c = absurd (contains_none y c)
 beside R [] (z ∷ zs) y zipped c = absurd zipped
 beside R (x ∷ xs) [] y zipped c = absurd zipped
@@ -51,7 +51,7 @@ beside R (x ∷ xs) (z ∷ zs) y zipped c =
     ]
 
 -- an end of an edge is one of its nodes
-end_of : (v l r : ℕ) → is_end v (edge_between l r) ≡ true → (v ≡ l) ⊎ (v ≡ r)
+pub end_of : (v l r : ℕ) → is_end v (edge_between l r) ≡ true → (v ≡ l) ⊎ (v ≡ r)
 end_of v l r e = elim (cases_Bool (leb l r)) [
   | inl low ↦ at true (sym (ap (λ b. is_end v (ordered b l r)) low) ∙ e)
   | inr high ↦ at false (sym (ap (λ b. is_end v (ordered b l r)) high) ∙ e)
@@ -126,7 +126,7 @@ right_has x = elim (cases_Bool x.flipped) [
 ]
 
 -- a row with an empty place has fewer fingers than columns
-fewer_fingers : (r : Row) (cs : List Column) (c : Column) → Contains cs c → place r c ≡ None → length (fingers_in r cs) < length cs
+pub fewer_fingers : (r : Row) (cs : List Column) (c : Column) → Contains cs c → place r c ≡ None → length (fingers_in r cs) < length cs
 fewer_fingers r [] c there none = absurd (contains_none c there)
 fewer_fingers r (d ∷ ds) c there none =
     elim (contains_cons d ds c there) [
@@ -255,19 +255,30 @@ range_differs m i j d less short =
     let at_j : get_or (range_with_len 0 m) j d ≡ 0 + j = get_or-range_with_len 0 m j d l in
     λ e. omega (arith, less, at_i, at_j, e)
 
+-- the nodes below n that pass a test
+module _ (p : ℕ → Bool) (n : ℕ) where
+  abbrev passing : List ℕ
+  passing = filter p (range_with_len 0 n)
+
+  pub nodes_differ : AllPairs (λ (a b : Node). a.0 ≢ b.0) (map node_at passing)
+  nodes_differ = pairs_map (λ (a b : ℕ). a ≢ b) (Contains passing) (λ (a b : Node). a.0 ≢ b.0) node_at passing (λ a b _ _ differ. differ) (all_from_contains (Contains passing) passing (λ v k. k)) (AllPairs-filter (λ (a b : ℕ). a ≢ b) p (range_with_len 0 n) (range_differs n))
+
+  pub nodes_have : (v : ℕ) → p v ≡ true → v < n → is_open (map node_at passing) v ≡ true
+  nodes_have v e l = test_there (λ (w : Node). w.0 == v) (map node_at passing) (node_at v) (contains_map node_at passing v (passes_to p (range_with_len 0 n) v (range_has n v l) e)) (eq-eqb v v refl)
+
+  pub nodes_are : (v : ℕ) → is_open (map node_at passing) v ≡ true → (p v ≡ true) × (v < n)
+  nodes_are v e =
+      let s : Some' (λ (w : Node). (w.0 == v) ≡ true) (map node_at passing) = test_finds (λ (w : Node). w.0 == v) (map node_at passing) e in
+      let i : Image node_at passing s.it = in_map node_at passing s.it s.there in
+      let q : Passes p (range_with_len 0 n) i.of = passes_from p (range_with_len 0 n) i.of i.listed in
+      let same : i.of ≡ v = ap (λ (w : Node). w.0) i.is ∙ eqb-true s.it.0 v s.holds in
+      (sym (ap p same) ∙ q.passes, omega (arith, sym same, range_below n i.of q.there))
+
 pub open_differ : (f : Fingers) (gates : List NetNo) → AllPairs (λ (a b : Node). a.0 ≢ b.0) (open_nodes f gates)
-open_differ f gates =
-    let passing : List ℕ = filter (any_can_meet f gates) (range_with_len 0 (256 * f.nets)) in
-    pairs_map (λ (a b : ℕ). a ≢ b) (Contains passing) (λ (a b : Node). a.0 ≢ b.0) node_at passing (λ a b _ _ differ. differ) (all_from_contains (Contains passing) passing (λ v k. k)) (AllPairs-filter (λ (a b : ℕ). a ≢ b) (any_can_meet f gates) (range_with_len 0 (256 * f.nets)) (range_differs (256 * f.nets)))
+open_differ f gates = nodes_differ (any_can_meet f gates) (256 * f.nets)
 
 pub open_has : (f : Fingers) (gates : List NetNo) (v : ℕ) → any_can_meet f gates v ≡ true → v < 256 * f.nets → is_open (open_nodes f gates) v ≡ true
-open_has f gates v e l =
-    test_there (λ (w : Node). w.0 == v) (open_nodes f gates) (node_at v) (contains_map node_at (filter (any_can_meet f gates) (range_with_len 0 (256 * f.nets))) v (passes_to (any_can_meet f gates) (range_with_len 0 (256 * f.nets)) v (range_has (256 * f.nets) v l) e)) (eq-eqb v v refl)
+open_has f gates v e l = nodes_have (any_can_meet f gates) (256 * f.nets) v e l
 
 pub open_is : (f : Fingers) (gates : List NetNo) (v : ℕ) → is_open (open_nodes f gates) v ≡ true → (any_can_meet f gates v ≡ true) × (v < 256 * f.nets)
-open_is f gates v e =
-    let s : Some' (λ (w : Node). (w.0 == v) ≡ true) (open_nodes f gates) = test_finds (λ (w : Node). w.0 == v) (open_nodes f gates) e in
-    let i : Image node_at (filter (any_can_meet f gates) (range_with_len 0 (256 * f.nets))) s.it = in_map node_at (filter (any_can_meet f gates) (range_with_len 0 (256 * f.nets))) s.it s.there in
-    let p : Passes (any_can_meet f gates) (range_with_len 0 (256 * f.nets)) i.of = passes_from (any_can_meet f gates) (range_with_len 0 (256 * f.nets)) i.of i.listed in
-    let same : i.of ≡ v = ap (λ (w : Node). w.0) i.is ∙ eqb-true s.it.0 v s.holds in
-    (sym (ap (any_can_meet f gates) same) ∙ p.passes, omega (arith, sym same, range_below (256 * f.nets) i.of p.there))
+open_is f gates v e = nodes_are (any_can_meet f gates) (256 * f.nets) v e

@@ -24,7 +24,7 @@ use Rattle.trail_state.specs.Nodes.{is_net_in}
 use Rattle.trail_state.specs.Pairings.{nets_at}
 use Rattle.trail_state.proofs.Walks.{ordered}
 
-turned_edge : (l r : ℕ) → edge_between l r ≡ edge_between r l
+pub turned_edge : (l r : ℕ) → edge_between l r ≡ edge_between r l
 turned_edge l r = elim (cases_Bool (leb l r)) [
   | inl low ↦ elim (cases_Bool (leb r l)) [
     | inl also ↦ let same : l ≡ r = omega (arith, leb-true l r low, leb-true r l also) in ap (λ v. edge_between l v) (sym same) ∙ ap (λ v. edge_between v l) same

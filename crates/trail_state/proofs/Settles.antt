@@ -14,7 +14,7 @@ use Rattle.trail_state.proofs.Follows.{Follows}
 use Rattle.trail_state.proofs.Links.{class_of, odd_at}
 use Rattle.trail_state.proofs.Members.{At, Found, Passes, at_map, found_from, mapped, one_place, passes_from, passes_to}
 
-abbrev of_class : ℕ → Place → Bool
+abbrev pub of_class : ℕ → Place → Bool
 of_class k q = q.class.0 == k
 
 -- the name that a class of this name has among the places that stay
@@ -73,13 +73,13 @@ module _ (es : List Edge) (nodes next : List Node) (t : List Place) (h : Follows
   same_name p q e = name_is kept p ∙ ap (new_name kept) e ∙ sym (name_is kept q)
 
   -- the place that names the class of one that stays
-  namer : (p : Place) → Contains kept p → Found (of_class p.class.0) kept
+  pub namer : (p : Place) → Contains kept p → Found (of_class p.class.0) kept
   namer p c = found_from (of_class p.class.0) kept p c (eq-eqb p.class.0 p.class.0 refl)
 
-  named_by : (p : Place) (c : Contains kept p) → (g p).class.0 ≡ (namer p c).it.node.0
+  pub named_by : (p : Place) (c : Contains kept p) → (g p).class.0 ≡ (namer p c).it.node.0
   named_by p c = name_is kept p ∙ ap (λ o. unwrap_or (option_map (λ (q : Place). q.node.0) o) p.class.0) (namer p c).is
 
-  namer_class : (p : Place) (c : Contains kept p) → (namer p c).it.class.0 ≡ p.class.0
+  pub namer_class : (p : Place) (c : Contains kept p) → (namer p c).it.class.0 ≡ p.class.0
   namer_class p c = eqb-true (namer p c).it.class.0 p.class.0 (namer p c).passes
 
   -- places with one name were of one class

@@ -23,7 +23,7 @@ edge_same d e h =
     ap (λ v. edge v d.b) (node_same d.a e.a parts.0) ∙ ap (λ v. edge e.a v) (node_same d.b e.b parts.1) in
     whole
 
-edge_decides : (d e : Edge) → Decides (same_edge d e) (d ≡ e)
+pub edge_decides : (d e : Edge) → Decides (same_edge d e) (d ≡ e)
 edge_decides d e = (
   edge_same d e,
   λ same. and_from (d.a.0 == e.a.0) (d.b.0 == e.b.0)

@@ -7,7 +7,8 @@ use crate::edge::{Choice, Edge, FingerEnds, Node};
 use cell_num::{List, NoMemory};
 use std::alloc::{AllocError, Global};
 
-fn between(l: u32, r: u32) -> Edge
+/// The edge between two nodes, whichever of them is on the left.
+pub fn between(l: u32, r: u32) -> Edge
     ensures { result ≡ edge_between l r }
 {
     if l <= r {
@@ -67,7 +68,7 @@ fn insert_in(alloc: Global, edge: &Edge, edges: &[Edge]) -> Result<Vec<Edge>, Al
 }
 
 /// The edges with one more, in its place.
-pub(crate) fn insert(alloc: Global, edge: &Edge, edges: &[Edge]) -> Result<Choice, NoMemory>
+pub fn insert(alloc: Global, edge: &Edge, edges: &[Edge]) -> Result<Choice, NoMemory>
     ensures { IfOk result (λ all. all ≡ inserted edge.now edges.now) }
 {
     Ok(List::from_vec(insert_in(alloc, edge, edges)?))

@@ -15,6 +15,7 @@ pub mod settle;
 pub mod state;
 
 pub use edge::{Choice, Edge, Node};
+pub use edges::{between, insert};
 pub use level::{Level, levels};
 pub use nodes::{count_on, open_nodes};
 pub use pairing::{choices, has_long_front};

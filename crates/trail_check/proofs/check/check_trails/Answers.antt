@@ -9,3 +9,9 @@ returns-clause-law c = accepted_low c.args.fingers.now c.args.trails.now c.requi
 
 pub returns-in-Some-clause-law : goal.returns-in-Some-clause-law
 returns-in-Some-clause-law c = accepted_low c.args.fingers.now c.args.trails.now c.requires.fingers
+
+pub returns-in_err-opened-clause-law : goal.returns-in_err-opened-clause-law
+returns-in_err-opened-clause-law c = accepted_low c.args.fingers.now c.args.trails.now c.requires.fingers
+
+pub returns-in_err-closed-clause-law : goal.returns-in_err-closed-clause-law
+returns-in_err-closed-clause-law c = accepted_low c.args.fingers.now c.args.trails.now c.requires.fingers

@@ -2,7 +2,7 @@ use Rattle.std.proofs.Common.{List, ap, arith, subst, sym, ◌∙◌}
 use Rattle.cell_num.specs.declared.net.NetNo.{NetNo}
 use Rattle.trail_state.specs.Levels.{AreLevels}
 use Rattle.trail_check.specs.Gates.{first_with_many}
-use Rattle.trail_check.specs.Leveled.{levels_of}
+use Rattle.open_gates.specs.Leveled.{levels_of}
 use Rattle.trail_search.proofs.Ends.{has_most}
 use Rattle.trail_search.proofs.Proved.{are_chained, attempted, crowded_alone, listed_alone, none_kept, refuted}
 use Rattle.trail_search.proofs.Reached.{reached_once}

@@ -1,4 +1,4 @@
-use Rattle.std.proofs.Common.{◌≡◌, ◌+◌, ◌-◌, arith, inl, inr, subst, sym}
+use Rattle.std.proofs.Common.{◌≡◌, ◌+◌, ◌-◌, [], arith, inl, inr, subst, sym, ◌∙◌}
 use Rattle.cell_num.specs.Fingers.{columns_of}
 use Rattle.row_state.specs.Completion.{Need}
 use Rattle.row_state.specs.Start.{columns_left, start_of}
@@ -6,18 +6,20 @@ use Rattle.row_state.proofs.Unfold.{columns_same}
 use Rattle.trail_log.specs.declared.trails.TrailCertificate.{TrailCertificate}
 use Rattle.trail_search.specs.Proof.{IsUnfinished}
 use Rattle.trail_search.specs.declared.found.TrailStop.TheVariants as stopped
-use Rattle.trail_search.specs.Ended.{IsTrailFound, Stops}
+use Rattle.trail_search.specs.Ended.{IsTrailFound, Stops, WentForRows}
 use Rattle.trail_search.specs.Searched.{AreSearched}
 use Rattle.trail_search.specs.First.{IsFirstRow}
-use Rattle.trail_search.proofs.Certified.{few_gaps, found_is, most_proved, none_as_few, spent_is}
-use Rattle.trail_search.proofs.Spent.{searched_less, searched_none}
+use Rattle.trail_search.proofs.Certified.{few_gaps, fewest_proved, found_is, row_found, spent_is}
+use Rattle.trail_check.specs.Leveled.{open_of}
+use Rattle.trail_search.proofs.Proving.{none_opened, opened_crowded}
+use Rattle.trail_search.proofs.Spent.{searched_less}
 use Rattle.trail_search.proofs.search.search_trails.Goals as goal
 
 pub returns-in-Err-Unfinished-clause-stopped : goal.returns-in-Err-Unfinished-clause-stopped
 returns-in-Err-Unfinished-clause-stopped c =
     let told : IsUnfinished c.args.fingers.now c.args.budget c.prove.new.left c.in-Err-Unfinished.proof = rw c.in-Err-Unfinished.field-0-is at c.in-Err-Unfinished.ensures.stopped in
     let is : c.unfinished.result ≡ stopped.Unfinished c.in-Err-Unfinished.proof.trails c.in-Err-Unfinished.proof.gaps = rw c.in-Err-Unfinished.field-0-is at c.unfinished.ensures in
-    subst (Stops c.args.fingers.now c.args.budget) (sym is) (spent_is c.in_ok-kinds.kinds c.args.fingers.now c.args.budget c.in-Err-Unfinished.proof c.in_ok-kinds.ensures.kinds c.in_ok-kinds.ensures.sound told.proved (omega (arith, told.units.few)) (inl (omega (arith, told.none, told.units.many))) (inr (searched_none c.in_ok-kinds.kinds _ _ _ (omega (arith, told.none, told.units.many)))))
+    subst (Stops c.args.fingers.now c.args.budget) (sym is) (spent_is c.in_ok-kinds.kinds c.args.fingers.now c.args.budget c.in-Err-Unfinished.proof c.in_ok-kinds.ensures.kinds c.in_ok-kinds.ensures.sound told.proved (omega (arith, told.units.few)) (inl (omega (arith, told.none, told.units.many))))
 
 pub first_row-requires : goal.first_row-requires
 first_row-requires c = record { few = few_gaps c.in_ok-kinds.kinds c.args.fingers.now c.in-Ok.proof.gaps c.in_ok-kinds.ensures.kinds c.in_ok-kinds.ensures.sound c.in-Ok.ensures.proof.least }
@@ -27,13 +29,26 @@ returns-in-Ok-Some-clause-found c =
     let first : IsFirstRow c.in_ok-kinds.kinds c.in-Ok.proof.gaps c.in-Ok-Some.first = rw c.in-Ok-Some.field-0-is at c.in-Ok-Some.ensures.found in
     subst (λ (z : TrailCertificate). IsTrailFound c.args.fingers.now c.args.budget c.in-Ok-Some.first.row z) (sym c.with_row.ensures) (found_is c.in_ok-kinds.kinds c.args.fingers.now c.args.budget c.in-Ok.proof c.in-Ok-Some.first c.in_ok-kinds.ensures.kinds c.in_ok-kinds.ensures.sound c.in-Ok.ensures.proof first (omega (arith, c.in-Ok.ensures.units.few)))
 
-pub returns-in-Ok-None-clause-stopped : goal.returns-in-Ok-None-clause-stopped
-returns-in-Ok-None-clause-stopped c =
+pub returns-in-Some-clause-stopped : goal.returns-in-Some-clause-stopped
+returns-in-Some-clause-stopped c = opened_crowded c.args.fingers.now c.in-Ok.proof c.in-Some.gate c.in-Ok.ensures.proof (sym c.first_opened.ensures ∙ c.in-Some.is)
+
+pub unreachable-requires : goal.unreachable-requires
+unreachable-requires c =
+    let none : (open_of c.args.fingers.now c.in-Ok.proof.trails).gates ≡ [] = none_opened c.args.fingers.now c.in-Ok.proof c.requires c.in-Ok.ensures.proof (sym c.first_opened.ensures ∙ c.in-None.is) in
     let need : Need c.in_ok-kinds.kinds (start_of c.in_ok-kinds.kinds) (c.in-Ok.proof.gaps + 1) = rw c.in-Ok-None.field-0-is at c.in-Ok-None.ensures.none in
-    subst (Stops c.args.fingers.now c.args.budget) (sym c.unfinished-in-Ok-None.ensures) (spent_is c.in_ok-kinds.kinds c.args.fingers.now c.args.budget c.in-Ok.proof c.in_ok-kinds.ensures.kinds c.in_ok-kinds.ensures.sound c.in-Ok.ensures.proof (omega (arith, c.in-Ok.ensures.units.few)) (inr (most_proved c.in_ok-kinds.kinds c.args.fingers.now c.in-Ok.proof c.requires c.in_ok-kinds.ensures.kinds c.in_ok-kinds.ensures.sound c.in-Ok.ensures.proof c.in-Ok.ensures.most)) (inl (none_as_few c.in_ok-kinds.kinds c.args.fingers.now c.in-Ok.proof.gaps c.in_ok-kinds.ensures.kinds need)))
+    row_found c.in_ok-kinds.kinds c.args.fingers.now c.in-Ok.proof.gaps c.in_ok-kinds.ensures.kinds (fewest_proved c.in_ok-kinds.kinds c.args.fingers.now c.in-Ok.proof c.requires c.in_ok-kinds.ensures.kinds c.in_ok-kinds.ensures.sound c.in-Ok.ensures.proof c.in-Ok.ensures.most none) need
 
 pub returns-in-Err-Spent-clause-stopped : goal.returns-in-Err-Spent-clause-stopped
 returns-in-Err-Spent-clause-stopped c =
     let went : AreSearched c.in_ok-kinds.kinds (c.in-Ok.proof.gaps + 1) (c.prove.new.left - c.first_row.new.left) (columns_left c.in_ok-kinds.kinds (start_of c.in_ok-kinds.kinds)) = rw c.in-Err-Spent.field-0-is at c.in-Err-Spent.ensures.spent in
     let spent : c.first_row.new.left ≡ 0 = rw c.in-Err-Spent.field-0-is at c.in-Err-Spent.ensures.halted in
-    subst (Stops c.args.fingers.now c.args.budget) (sym c.unfinished-in-Err-Spent.ensures) (spent_is c.in_ok-kinds.kinds c.args.fingers.now c.args.budget c.in-Ok.proof c.in_ok-kinds.ensures.kinds c.in_ok-kinds.ensures.sound c.in-Ok.ensures.proof (omega (arith, c.in-Ok.ensures.units.few)) (inr (most_proved c.in_ok-kinds.kinds c.args.fingers.now c.in-Ok.proof c.requires c.in_ok-kinds.ensures.kinds c.in_ok-kinds.ensures.sound c.in-Ok.ensures.proof c.in-Ok.ensures.most)) (inr (searched_less c.in_ok-kinds.kinds _ (c.prove.new.left - c.first_row.new.left) _ (columns_left c.in_ok-kinds.kinds (start_of c.in_ok-kinds.kinds)) (columns_of c.args.fingers.now) (omega (arith, spent, c.in-Ok.ensures.units.many)) (sym (columns_same c.args.fingers.now c.in_ok-kinds.kinds c.in_ok-kinds.ensures.kinds)) went)))
+    let rows : WentForRows c.args.fingers.now c.args.budget c.in-Ok.proof.trails c.in-Ok.proof.gaps = record {
+      fewest = λ none. fewest_proved c.in_ok-kinds.kinds c.args.fingers.now c.in-Ok.proof c.requires c.in_ok-kinds.ensures.kinds c.in_ok-kinds.ensures.sound c.in-Ok.ensures.proof c.in-Ok.ensures.most none;
+      searched = (
+        c.in_ok-kinds.kinds,
+        c.in_ok-kinds.ensures.kinds,
+        c.in_ok-kinds.ensures.sound,
+        searched_less c.in_ok-kinds.kinds _ (c.prove.new.left - c.first_row.new.left) _ (columns_left c.in_ok-kinds.kinds (start_of c.in_ok-kinds.kinds)) (columns_of c.args.fingers.now) (omega (arith, spent, c.in-Ok.ensures.units.many)) (sym (columns_same c.args.fingers.now c.in_ok-kinds.kinds c.in_ok-kinds.ensures.kinds)) went,
+      );
+    } in
+    subst (Stops c.args.fingers.now c.args.budget) (sym c.unfinished-in-Err-Spent.ensures) (spent_is c.in_ok-kinds.kinds c.args.fingers.now c.args.budget c.in-Ok.proof c.in_ok-kinds.ensures.kinds c.in_ok-kinds.ensures.sound c.in-Ok.ensures.proof (omega (arith, c.in-Ok.ensures.units.few)) (inr rows))

@@ -6,7 +6,7 @@ use Rattle.trail_search.specs.Search.{IsStateOf}
 use Rattle.trail_search.specs.Units.{path_units, units_at}
 use Rattle.cell_num.proofs.Lists.{all_at}
 use Rattle.trail_state.specs.declared.level.Level.{Level}
-use Rattle.trail_search.proofs.Grown.{IsChoice, all_fail, choice_at, fails_dear, fails_known, fails_still, further_then, state_behind}
+use Rattle.trail_search.proofs.Grown.{IsChoice, all_fail, choice_at, fails_dear, fails_known, fails_odd, fails_still, further_then, state_behind}
 use Rattle.trail_search.proofs.Ends.{choice_open, leaf_open}
 use Rattle.trail_search.proofs.New.{stay_behind, unknown_still}
 use Rattle.trail_search.proofs.Reached.{within_more, within_then}
@@ -17,6 +17,10 @@ pub loop-choice-preserved-then-allowed-settled : goal.loop-choice-preserved-then
 loop-choice-preserved-then-allowed-settled t c =
     let choice : IsChoice c.in-Some.level.now c.args.state.now c.as_slice-choice-items.result.now c.loop-choice.choice-index c.in_ok-settled.settled.state c.in_ok-settled.settled.ends = choice_at c.in-Some.level.now c.args.state.now c.as_slice-choice-items.result.now c.loop-choice.choice-index c.in_ok-settled.settled.state c.in_ok-settled.settled.ends c.choice-item.result c.as_slice-in-loop-choice-2.result.now c.as_slice.result.now c.as_slice-in-loop-choice.result.now c.loop-choice-test.true c.choice-item.is c.as_slice-in-loop-choice-2.ensures c.as_slice.ensures c.as_slice-in-loop-choice.ensures c.in_ok-settled.ensures.state c.in_ok-settled.ensures.ends in
     (c.loop-choice.invariant.0, c.loop-choice.invariant.1, fails_dear c.loop-choice.kept.lemmas c.in-Some.level.now c.args.done c.args.state.now c.in_ok-settled.settled.state c.args.allowed c.in_ok-settled.settled.ends c.as_slice-choice-items.result.now c.loop-choice.choice-index choice c.if-allowed-settled.true c.loop-choice.invariant.2, c.loop-choice.invariant.3, c.loop-choice.invariant.4, c.loop-choice.invariant.5)
+
+pub loop-choice-preserved-then-exceeds : goal.loop-choice-preserved-then-exceeds
+loop-choice-preserved-then-exceeds t c =
+    (c.loop-choice.invariant.0, c.loop-choice.invariant.1, fails_odd c.loop-choice.kept.lemmas c.in-Some.level.now c.args.done c.args.state.now c.args.allowed c.in_ok-closing.closing c.as_slice-choice-items.result.now c.loop-choice.choice-index c.choice-item.result c.loop-choice-test.true c.choice-item.is c.in_ok-closing.ensures (c.exceeds.ensures c.if-exceeds.true) c.loop-choice.invariant.2, c.loop-choice.invariant.3, c.loop-choice.invariant.4, c.loop-choice.invariant.5)
 
 pub loop-choice-preserved-then-knows : goal.loop-choice-preserved-then-knows
 loop-choice-preserved-then-knows t c =

@@ -1,0 +1,13 @@
+// Gates with half columns that nothing fills: their choices and nodes, merged, and the ends that no row escapes all the
+// same.
+#![tactic(auto)]
+
+mod choices;
+pub mod gates;
+pub mod laws;
+mod level;
+mod merge;
+mod nodes;
+
+pub use gates::{OpenGates, closed_gates, has_more, row_of};
+pub use level::{levels_of, open_levels};

@@ -1,0 +1,38 @@
+-- Which gates with half columns a search fills, and which it leaves open.
+use Rattle.std.specs.Prelude.{ℕ, ◌==◌, ◌&&◌, Bool, not, List, map}
+use Rattle.std.specs.List.{filter, list_any, range_with_len}
+use Rattle.cell_num.specs.declared.net.NetNo.{NetNo}
+use Rattle.cell_num.specs.declared.finger.Fingers.{Fingers}
+use Rattle.cell_num.specs.Fingers.{on_gate}
+use Rattle.open_gates.specs.Open.{has_more, row_of}
+use Rattle.trail_check.specs.Gates.{has_many_ways}
+
+-- more fingers of the gate in one row than in the other
+abbrev pub is_uneven : Fingers → ℕ → Bool
+is_uneven f gate = not (on_gate gate f.p == on_gate gate f.n)
+
+-- the gates with half columns, in the order of their numbers
+abbrev pub uneven_gates : Fingers → List NetNo
+uneven_gates f = map (λ g. record { 0 = g }) (filter (is_uneven f) (range_with_len 0 f.nets))
+
+-- a gate with half columns that has too many ways, where they are filled
+abbrev pub is_crowded : Fingers → NetNo → Bool
+is_crowded f gate = is_uneven f gate.0 && has_many_ways f gate
+
+abbrev pub crowded_gates : Fingers → List NetNo → List NetNo
+crowded_gates f order = filter (is_crowded f) order
+
+-- those that have more fingers in the row of the first of them
+abbrev pub longer_gates : Fingers → List NetNo → List NetNo
+longer_gates f gates = filter (has_more (row_of f gates) f) gates
+
+-- these are left open
+abbrev pub opened_gates : Fingers → List NetNo → List NetNo
+opened_gates f order = longer_gates f (crowded_gates f order)
+
+abbrev pub is_one_of : List NetNo → NetNo → Bool
+is_one_of gates gate = list_any (λ (g : NetNo). g.0 == gate.0) gates
+
+-- the other gates with half columns are filled
+abbrev pub filled_gates : Fingers → List NetNo → List NetNo
+filled_gates f order = filter (λ gate. not (is_one_of (opened_gates f order) gate)) (uneven_gates f)
