@@ -2,8 +2,8 @@ mod Cutting
 mod Cycles
 mod Finds
 pub mod FirstLabels
-mod Holding
-mod Marks
+pub mod Holding
+pub mod Marks
 mod NodeLines
 mod Numbers
 mod OnePieceTold

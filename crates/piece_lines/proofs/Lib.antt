@@ -1,0 +1,15 @@
+mod Again
+mod Begins
+mod Fewest
+mod Goes
+mod Kept
+mod Listed
+mod OnLines
+mod OnPaths
+mod Parts
+mod Runs
+mod Steady
+mod Straight
+mod Swept
+mod SweptAt
+mod TrackAt

@@ -1,0 +1,6 @@
+pub mod Turning
+pub mod Pools
+pub mod Filled
+pub mod Without
+pub mod Parted
+pub mod Opened
