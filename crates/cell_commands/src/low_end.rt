@@ -41,7 +41,7 @@ pub(crate) fn ring_end(
         let report = cycle_report(alloc, nets, ring)?;
         Ok(evidence_end(Status::Cycle, evidence.files, report))
     } else {
-        let report = open_ring_report(alloc, nets, 0, ring)?;
+        let report = open_ring_report(alloc, nets, ring)?;
         Ok(evidence_end(Status::Unfinished, evidence.files, report))
     }
 }

@@ -37,19 +37,14 @@ pub fn tall_report(alloc: Global, fewest: &[u8], needed: u32, given: u32) -> Res
     Ok(report)
 }
 
-/// The report of an open search for the lowest row, where the first least row has a cycle of nets: the fewest tracks,
-/// as in [`put_fewest`], and the cycle.
-pub fn open_ring_report(
-    alloc: Global,
-    nets: &Names,
-    fewest: u32,
-    ring: &Ring,
-) -> Result<Bytes, NoMemory>
-    ensures { IfOk result (λ report. report ≡ first_line status.Unfinished ++ fewest_text fewest
+/// The report of an open search for a row that can be wired: no track is known to be needed, and the first least row
+/// has the cycle of nets.
+pub fn open_ring_report(alloc: Global, nets: &Names, ring: &Ring) -> Result<Bytes, NoMemory>
+    ensures { IfOk result (λ report. report ≡ first_line status.Unfinished ++ fewest_text 0
         ++ ring_text nets.now ring.now) }
 {
     let mut report = Status::Unfinished.report(alloc)?;
-    put_fewest(&mut report, fewest)?;
+    put_fewest(&mut report, 0)?;
     put_ring(&mut report, nets, ring)?;
     Ok(report)
 }
