@@ -11,8 +11,6 @@ import sys
 TOP = os.path.join(os.path.dirname(os.path.abspath(__file__)), "..")
 CRATES = os.path.join(TOP, "crates")
 MOST_LINES, MOST_CHARACTERS, MOST_BODY, MOST_PROOF_CHARACTERS = 250, 120, 40, 400
-# To be shortened when its crate is next proved; it may grow no longer.
-LONGER = {("crates/track_search/src/descent.rt", "visit"): 41}
 PARTS = ("src", "specs", "proofs")
 FUNCTION = re.compile(r"(\s*)(?:pub(?:\(crate\))? )?(?:final )?(?:const )?fn (\w+)")
 PUBLIC = re.compile(r"\s*pub (?:const )?(?:fn|struct|enum|trait|const) (\w+)")
@@ -87,7 +85,7 @@ def faults():
                     yield f"{path}:{number}: {len(line)} characters"
     for path, lines in files("src"):
         yield from (f"{path}:{at}: the body of {name} has {size} lines" for name, at, size in bodies(lines)
-                   if size > LONGER.get((str(path), name), MOST_BODY))
+                   if size > MOST_BODY)
         if "_tests/" not in path:
             yield from (f"{path}:{at}: {name} has no comment" for name, at in bare(lines))
 

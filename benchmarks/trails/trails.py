@@ -1,7 +1,7 @@
 """Ends of trails, gate by gate, as docs/FORMATS.md has them: the choices of a gate, what they leave open, lemmas, and their check.
 
-A node is a pair of nets, P net and N net. An edge is a column with both places filled: its two nodes in order. It is plain and slow,
-and shares no code with the program.
+A node is a pair of nets, P net and N net. An edge is a column with both places filled: its two nodes in order. Where gates are left open,
+nodes are merged. It is plain and slow, and shares no code with the program.
 """
 import itertools
 from collections import Counter, namedtuple
@@ -46,9 +46,31 @@ def choices_of(fingers, gate):
     return list(found)
 
 
-def nodes_of(fingers, gates):
-    """The nodes that columns of these gates can meet."""
-    return {node for gate in gates for choice in choices_of(fingers, gate) for one in choice for node in one}
+class Open:
+    """Gates whose half columns are left open, and the nodes that are one then: those with the same net of the row that has more fingers on these gates."""
+
+    def __init__(self, fingers, fill):
+        self.gates = [gate for gate in filled(fingers) if gate not in fill]
+        longer = {sum(one.gate == gate for one in fingers.p) > sum(one.gate == gate for one in fingers.n) for gate in self.gates}
+        if len(longer) > 1:
+            raise ValueError("the gates that are left open have more fingers in different rows")
+        self.in_p = longer != {False}
+        self.fingers = [one for one in (fingers.p if self.in_p else fingers.n) if one.gate in self.gates]
+        self.nets = {net for one in self.fingers for net in (one.lo, one.hi)}
+
+    def node(self, net):
+        return (net, 0) if self.in_p else (0, net)
+
+    def merged(self, node):
+        net = node[not self.in_p]
+        return self.node(net) if net in self.nets else node
+
+    def choices(self, fingers, gate):
+        """One choice of a gate that is left open: an edge for each finger of the longer row. Else its choices with merged nodes, each once."""
+        if gate in self.gates:
+            return [tuple(sorted(edge(*self.node(one.lo), *self.node(one.hi)) for one in self.fingers if one.gate == gate))]
+        each = (tuple(sorted(edge(*self.merged(a), *self.merged(b)) for a, b in choice)) for choice in choices_of(fingers, gate))
+        return list(dict.fromkeys(each))
 
 
 def joined(classes, one):
@@ -78,9 +100,11 @@ def after(later, state, choice):
 class Levels:
     """The gates of an order: the choices of each, and the nodes that later ones can meet."""
 
-    def __init__(self, fingers, order):
-        self.choices = [choices_of(fingers, gate) for gate in order]
-        self.later = [nodes_of(fingers, order[at + 1:]) for at in range(len(order))]
+    def __init__(self, fingers, order, fill):
+        opened = Open(fingers, fill)
+        self.choices = [opened.choices(fingers, gate) for gate in order]
+        nodes = [{node for choice in choices for one in choice for node in one} for choices in self.choices]
+        self.later = [set().union(*nodes[at + 1:]) for at in range(len(order))]
 
     def behind(self, done, state):
         """What each choice of the next gate comes to."""

@@ -10,7 +10,8 @@ all: $(addprefix .made/,$(shell seq $(COUNT)))
 # first, so that no file of a cell that is refused now is left. A cell whose lowest row takes too long (without LIMIT
 # 300 seconds), or too much memory, gets its first row. One that trails do not make, for such a reason or since the search
 # is left open, is made by its log.
-# A cell whose trunks are above each other in a cycle is made with `--dogleg`, from its first row.
+# A cell whose trunks are above each other in a cycle is made with `--dogleg`, from its first row. Where that has a cycle
+# too, or is cut, a cell of `--low` keeps the report and the files of the call before, which prove more.
 .made/%: inputs
 	@name=$$(sed -n '$*p' cells); \
 	rm -f "$$name.gds" "$$name.lef" "$$name.svg" "$$name.clog" "$$name.ctrail" "$$name.ctrack"; \
@@ -36,8 +37,14 @@ all: $(addprefix .made/,$(shell seq $(COUNT)))
 	fi; \
 	limit=$${LIMIT:-0}; \
 	if [ $$status -eq 5 ] || no_lowest; then \
-		rm -f "$$name.ctrack"; \
-		cell --dogleg $$FIRST; status=$$?; word=$${log}--dogleg; \
+		before=$$status; \
+		mv "$$name.txt" .made/$*.txt; \
+		cell --dogleg $$FIRST; status=$$?; \
+		if [ -n "$$low" ] && { [ $$status -eq 5 ] || is_cut; }; then \
+			mv .made/$*.txt "$$name.txt"; status=$$before; \
+		else \
+			rm -f .made/$*.txt "$$name.ctrack"; word=$${log}--dogleg; \
+		fi; \
 	fi; \
 	seconds=$$(echo "$$began $$(date +%s.%N)" | awk '{ printf "%.2f", $$2 - $$1 }'); \
 	awk -v name="$$name" -v status=$$status -v seconds=$$seconds -v word=$$word -v low=$$low -f "$(TOP)/making/row.awk" "$$name.txt" \
