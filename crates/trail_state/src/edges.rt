@@ -37,41 +37,49 @@ fn is_lower(edge: &Edge, other: &Edge) -> bool
     other.a.0 < edge.a.0 || (other.a == edge.a && other.b.0 < edge.b.0)
 }
 
-fn lower(alloc: Global, edge: &Edge, edges: &[Edge]) -> Result<Vec<Edge>, AllocError>
-    ensures { IfOk result (λ all. all.items ≡ filter (is_below edge.now) edges.now) }
+fn add_lower(all: &mut Vec<Edge>, edge: &Edge, edges: &[Edge]) -> Result<(), AllocError>
+    ensures { OnOk result (all.new.items ≡ all.old.items ++ filter (is_below edge.now) edges.now) }
 {
-    edges
-        .iter()
-        .copied()
-        .filter(|other| is_lower(edge, other))
-        .collect(alloc)
+    for other in edges {
+        if is_lower(edge, other) {
+            all.push(*other)?;
+        }
+    }
+    Ok(())
 }
 
-fn higher(alloc: Global, edge: &Edge, edges: &[Edge]) -> Result<Vec<Edge>, AllocError>
-    ensures { IfOk result (λ all. all.items ≡ filter (λ d. not (is_below edge.now d)) edges.now) }
+fn add_higher(all: &mut Vec<Edge>, edge: &Edge, edges: &[Edge]) -> Result<(), AllocError>
+    ensures { OnOk result (all.new.items ≡ all.old.items ++ filter (λ d. not (is_below edge.now d)) edges.now) }
 {
-    edges
-        .iter()
-        .copied()
-        .filter(|other| !is_lower(edge, other))
-        .collect(alloc)
+    for other in edges {
+        if !is_lower(edge, other) {
+            all.push(*other)?;
+        }
+    }
+    Ok(())
 }
 
-fn insert_in(alloc: Global, edge: &Edge, edges: &[Edge]) -> Result<Vec<Edge>, AllocError>
-    ensures { IfOk result (λ all. all.items ≡ inserted edge.now edges.now) }
+/// Puts the edges with one more, in its place, instead of what is there.
+pub(crate) fn put_inserted(
+    all: &mut Vec<Edge>,
+    edge: &Edge,
+    edges: &[Edge],
+) -> Result<(), AllocError>
+    ensures { OnOk result (all.new.items ≡ inserted edge.now edges.now) }
 {
-    let mut all = lower(alloc, edge, edges)?;
+    all.clear();
+    add_lower(all, edge, edges)?;
     all.push(*edge)?;
-    let rest = higher(alloc, edge, edges)?;
-    all.extend_from_slice(rest.as_slice())?;
-    Ok(all)
+    add_higher(all, edge, edges)
 }
 
 /// The edges with one more, in its place.
 pub fn insert(alloc: Global, edge: &Edge, edges: &[Edge]) -> Result<Choice, NoMemory>
     ensures { IfOk result (λ all. all ≡ inserted edge.now edges.now) }
 {
-    Ok(List::from_vec(insert_in(alloc, edge, edges)?))
+    let mut all = Vec::with_capacity(alloc, edges.len().saturating_add(1))?;
+    put_inserted(&mut all, edge, edges)?;
+    Ok(List::from_vec(all))
 }
 
 /// The edges of a column of a P and an N finger: turned alike, or not.

@@ -1,17 +1,20 @@
-ghost use Rattle.std.specs.Prelude.{◌≡◌, ◌<◌, ◌≤◌, ◌++◌, [], All, IfNone, IfOk, IfSome, OnOk, length, position};
+ghost use Rattle.std.specs.Prelude.{◌≡◌, ◌<◌, ◌≤◌, ◌++◌, [], All, IfNone, IfOk, IfSome, OnOk, length};
 ghost use Rattle.std.specs.Hash as fed;
 ghost use Rattle.std.specs.Hash.{same_Alike};
 ghost use Rattle.trail_state.specs.Fronts.{alone, first_front, n_alone, next_front, next_parts, paired, paired_with};
-ghost use Rattle.trail_state.specs.Fronts.{same_nets, with_all, with_column, with_new, without};
+ghost use Rattle.trail_state.specs.Fronts.{with_all, with_column, with_new};
 ghost use Rattle.trail_state.specs.Same.{part_decides};
+ghost use Rattle.trail_state.specs.Sorted.{inserted};
 
 use crate::edge::{Edge, FingerEnds};
-use crate::edges::{insert, n_alone, p_alone, pair};
+use crate::edges::{n_alone, p_alone, pair, put_inserted};
 use crate::gate::Gate;
+use crate::left::without;
 use cell_num::{List, NoMemory};
 use indexmap::IndexSet;
-use std::alloc::{AllocError, Global};
+use std::alloc::Global;
 use std::hash::{Hash, Hasher};
+use std::mem;
 
 /// Some columns of a gate, the first that are listed: their edges in ascending order, and the N fingers that are in
 /// none of them.
@@ -43,45 +46,50 @@ fn add(all: &mut IndexSet<Part>, part: Part) -> Result<(), NoMemory>
     }
 }
 
+// Adds a copy of the part, if it is not there. Most parts are there, and take no memory.
+fn add_copy(alloc: Global, all: &mut IndexSet<Part>, part: &Part) -> Result<(), NoMemory>
+    ensures { OnOk result (all.new.keys ≡ with_new all.old.keys part.now) }
+{
+    if all.contains(part) {
+        return Ok(());
+    }
+    let copy = Part {
+        edges: List::from_vec(part.edges.as_slice().to_vec(alloc)?),
+        left: List::from_vec(part.left.as_slice().to_vec(alloc)?),
+    };
+    add(all, copy)
+}
+
+// Gives the part these edges with one more.
+fn put_edges(alloc: Global, part: &mut Part, edge: &Edge, edges: &[Edge]) -> Result<(), NoMemory>
+    ensures edges { OnOk result (part.new.edges ≡ inserted edge.now edges.now) }
+    ensures left { OnOk result (part.new.left ≡ part.old.left) }
+{
+    let mut all = mem::replace(&mut part.edges, List::new(alloc)).into_vec();
+    put_inserted(&mut all, edge, edges)?;
+    part.edges = List::from_vec(all);
+    Ok(())
+}
+
 // Adds the part with each of the edges.
 fn add_column(
     alloc: Global,
     all: &mut IndexSet<Part>,
     part: &Part,
-    left: &[FingerEnds],
+    left: List<FingerEnds>,
     edges: &[Edge],
 ) -> Result<(), NoMemory>
-    ensures { OnOk result (all.new.keys ≡ with_all all.old.keys (with_column part.now left.now edges.now)) }
+    ensures { OnOk result (all.new.keys ≡ with_all all.old.keys (with_column part.now left edges.now)) }
 {
+    let mut more = Part {
+        edges: List::new(alloc),
+        left,
+    };
     for edge in edges {
-        let more = Part {
-            edges: insert(alloc, edge, part.edges.as_slice())?,
-            left: List::from_vec(left.to_vec(alloc)?),
-        };
-        add(all, more)?;
+        put_edges(alloc, &mut more, edge, part.edges.as_slice())?;
+        add_copy(alloc, all, &more)?;
     }
     Ok(())
-}
-
-fn find(nets: FingerEnds, left: &[FingerEnds]) -> Option<usize>
-    ensures { result ≡ position (same_nets nets) left.now }
-{
-    left.iter().position(|other| nets == *other)
-}
-
-#[tactic(auto, using(crate::proofs::Parts::one_less, crate::proofs::Parts::none_less))]
-fn without(
-    alloc: Global,
-    nets: FingerEnds,
-    left: &[FingerEnds],
-) -> Result<Vec<FingerEnds>, AllocError>
-    ensures { IfOk result (λ rest. rest.items ≡ without nets left.now) }
-{
-    let mut rest = left.to_vec(alloc)?;
-    if let Some(at) = find(nets, left) {
-        rest.remove(at);
-    }
-    Ok(rest)
 }
 
 // Adds the part with a column of the P finger and this one of the N fingers left.
@@ -95,7 +103,7 @@ fn add_pair(
     ensures { OnOk result (all.new.keys ≡ with_all all.old.keys (paired_with x part.now y)) }
 {
     let others = without(alloc, y, part.left.as_slice())?;
-    add_column(alloc, all, part, others.as_slice(), &pair(x, y))
+    add_column(alloc, all, part, List::from_vec(others), &pair(x, y))
 }
 
 // Adds the part with a column of the P finger and one of the N fingers left.
@@ -131,6 +139,7 @@ fn add_alone(
         return Ok(());
     }
     let edges = p_alone(alloc, gate.n_fill.as_slice(), x)?;
+    let left = List::from_vec(left.to_vec(alloc)?);
     add_column(alloc, all, part, left, edges.as_slice())
 }
 
@@ -143,6 +152,7 @@ fn add_n(alloc: Global, all: &mut IndexSet<Part>, gate: &Gate, part: &Part) -> R
         return Ok(());
     };
     let edges = n_alone(alloc, gate.p_fill.as_slice(), *y)?;
+    let left = List::from_vec(left.to_vec(alloc)?);
     add_column(alloc, all, part, left, edges.as_slice())
 }
 

@@ -7,6 +7,7 @@ mod edges;
 mod front;
 mod gate;
 pub mod laws;
+mod left;
 pub mod level;
 mod listing;
 pub mod nodes;
