@@ -82,10 +82,7 @@ walk_below n ((l, r) ∷ w) h =
     let here : (l < n) × (r < n) = ends_below n l r (All-head (IsBelow n) (edge_between l r) (edges_of w) h) in
     (here.0, here.1, walk_below n w (All-tail (IsBelow n) (edge_between l r) (edges_of w) h))
 
-module _ (f : Fingers) (ok : AreFingers f) (order : List NetNo) (is_order : IsOrder f order) where
-  gate_below : (g : NetNo) → Contains order g → g.0 < f.nets
-  gate_below g k = is_net_gate f g.0 ok (All-contains (λ (h : NetNo). IsGate f h.0) order g is_order.gates k)
-
+module _ (f : Fingers) (ok : AreFingers f) where
   -- the nodes of a choice
   choice_below : (g : ℕ) (c : List Edge) → g < f.nets → IsChoice f g c → All (IsBelow (256 * f.nets)) c
   choice_below g c within choice = all_from_contains (IsBelow (256 * f.nets)) c (λ e k. (
@@ -95,7 +92,7 @@ module _ (f : Fingers) (ok : AreFingers f) (order : List NetNo) (is_order : IsOr
         (test_there (is_end e.b.0) c e k (or_right (e.a.0 == e.b.0) (e.b.0 == e.b.0) (eq-eqb e.b.0 e.b.0 refl)))).1,
   ))
 
-  all_below : (gs : List NetNo) (cs : List (List Edge)) → ((g : NetNo) → Contains gs g → g.0 < f.nets)
+  pub all_below : (gs : List NetNo) (cs : List (List Edge)) → ((g : NetNo) → Contains gs g → g.0 < f.nets)
       → AreChoices f gs cs → All (IsBelow (256 * f.nets)) (all_edges cs)
   all_below [] [] within h = All-nil (IsBelow (256 * f.nets))
   all_below [] (c ∷ cs) within h = absurd h
@@ -103,6 +100,10 @@ module _ (f : Fingers) (ok : AreFingers f) (order : List NetNo) (is_order : IsOr
   all_below (g ∷ gs) (c ∷ cs) within h =
       All-append (IsBelow (256 * f.nets)) c (all_edges cs) (choice_below g.0 c (within g (contains_here g gs)) h.0)
       (all_below gs cs (λ k l. within k (contains_there g gs k l)) h.1)
+
+module _ (f : Fingers) (ok : AreFingers f) (order : List NetNo) (is_order : IsOrder f order) where
+  pub gate_below : (g : NetNo) → Contains order g → g.0 < f.nets
+  gate_below g k = is_net_gate f g.0 ok (All-contains (λ (h : NetNo). IsGate f h.0) order g is_order.gates k)
 
   n_small : (v : ℕ) → is_net_in f.n v ≡ true → v < 256
   n_small v e = net_small N f.nets f.n v ok.n ok.few_nets e
@@ -197,7 +198,7 @@ module _ (f : Fingers) (ok : AreFingers f) (order : List NetNo) (is_order : IsOr
       let w : Whole f (all_edges cs) = whole f order is_order gate_below cs each in
       let z : Pairs w = pairs (all_edges cs) w in
       let walked : Walked (256 * f.nets) (all_edges cs) =
-      euler (256 * f.nets) (all_edges cs) (all_edge (all_edges cs) w z) (all_below order cs gate_below each) in
+      euler (256 * f.nets) (all_edges cs) (all_edge (all_edges cs) w z) (all_below f ok order cs gate_below each) in
       let a : Along walked.steps =
       along (all_edges cs) w z walked.steps (in_order (all_edges cs) w z walked.steps walked.same) in
       record { row = a.row; arranges = a.arranges; few = omega (arith, a.few, walked.few) }
@@ -213,7 +214,7 @@ module _ (f : Fingers) (ok : AreFingers f) (order : List NetNo) (is_order : IsOr
       let below : AreBelow (256 * f.nets) o.walk =
       walk_below (256 * f.nets) o.walk
       (All-permutation (IsBelow (256 * f.nets)) (all_edges o.choices) (edges_of o.walk) same
-      (all_below order o.choices gate_below o.each)) in
+      (all_below f ok order o.choices gate_below o.each)) in
       let least : settled (256 * f.nets) (all_edges o.choices) [] ≤ 2 * (breaks_of o.walk + 1) =
       settled_least (256 * f.nets) (all_edges o.choices) o.walk below
       (IsPermutation-map finger_of (all_edges o.choices) (edges_of o.walk) same) in

@@ -26,7 +26,7 @@ use Rattle.trail_state.proofs.Grouped.{columns_of_gate}
 use Rattle.trail_check.specs.Rows.{AreChoices}
 use Rattle.trail_check.proofs.Lists.{all_keys}
 
-zip_append : {X Y : Type 0} (R : X → Y → Type 0) (xs us : List X) (ys vs : List Y) → AllZip R xs ys → AllZip R us vs
+pub zip_append : {X Y : Type 0} (R : X → Y → Type 0) (xs us : List X) (ys vs : List Y) → AllZip R xs ys → AllZip R us vs
     → AllZip R (xs ++ us) (ys ++ vs)
 zip_append R [] us [] vs h k = k
 zip_append R [] us (y ∷ ys) vs h k = absurd h

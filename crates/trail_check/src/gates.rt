@@ -58,10 +58,10 @@ fn passes(fingers: &Fingers, trails: &TrailCertificate, opened: &OpenGates) -> b
     is_order(fingers, trails.order.as_slice()) && opened.have_more(fingers)
 }
 
-/// Whether the order is each gate of a finger once, and the gates with half columns that are not filled all have more
-/// fingers in one row: these are left open.
+// Whether the order is each gate of a finger once, and the gates with half columns that are not filled all have more
+// fingers in one row: these are left open.
 #[tactic(auto, using(crate::proofs::Decided::gates_decide))]
-pub fn are_gates(fingers: &Fingers, trails: &TrailCertificate, opened: &OpenGates) -> bool
+pub(crate) fn are_gates(fingers: &Fingers, trails: &TrailCertificate, opened: &OpenGates) -> bool
     requires { opened.now ≡ open_of fingers.now trails.now }
     ensures { IsTrue result ↔ AreGates fingers.now trails.now }
 {

@@ -20,8 +20,8 @@ pub fn classes()
 
 /// The gaps that are possible: choices, one of each gate, have an arrangement with no more gaps than their ends say
 /// (`row`), and each arrangement has choices with no more ends than two for each of its stretches without a gap
-/// (`choices`). So some arrangement has at most so many gaps where some choices have at most so many ends (`possible`).
-/// It does nothing: its contract is the law.
+/// (`choices`). So some arrangement has at most `gaps` gaps exactly where some choices have at most `2 * (gaps + 1)`
+/// ends (`possible`). It does nothing: its contract is the law.
 pub fn possible_gaps()
     ensures row { (f : Fingers) → AreFingers f → (order : List NetNo) → IsOrder f order
         → (choices : List (List Edge)) → AreChoices f order choices → HasRow f (gaps_with (ends_in f choices)) }
@@ -38,9 +38,9 @@ pub fn fewest_gaps()
         → (ends : ℕ) → AreFewestEnds f order ends → AreFewestGaps f (gaps_with ends) }
 {}
 
-/// The states along an order count the ends of its choices exactly: every list of choices results in so many ends
-/// exactly where each one has at least as many as a graph (`all`). Where not every list results in one end more, some
-/// choices have no more (`some`). It does nothing: its contract is the law.
+/// The states along an order count the ends of its choices exactly: every list of choices results in `ends` ends or
+/// more exactly where each one has at least `ends` as a graph (`all`). Where not every list results in `ends + 1` or
+/// more, some choices have at most `ends` (`some`). It does nothing: its contract is the law.
 pub fn known_ends()
     ensures all { (f : Fingers) → AreFingers f → (order : List NetNo) → IsOrder f order
         → (levels : List Level) → AreLevels f order levels → (ends : ℕ) → Ends levels [] ends

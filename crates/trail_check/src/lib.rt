@@ -15,7 +15,6 @@ mod ways;
 
 pub use check::check_trails;
 pub use closing::{ClosingNode, ClosingNodes, closing_nodes, odd_ends};
-pub use gates::are_gates;
 pub use index::LemmaIndex;
 pub use justified::check_lemmas;
 pub use known::{ends_proved, is_same_state};

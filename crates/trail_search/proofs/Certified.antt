@@ -1,5 +1,6 @@
 -- The first row of the proved number is the first least one, and its certificate is accepted.
-use Rattle.std.proofs.Common.{ℕ, ◌≡◌, ◌+◌, ◌*◌, ◌<◌, ◌≤◌, ◌⊎◌, List, [], ◌∷◌, IsNone, length, refl, sym, ap, subst, arith, inl, inr, ◌∙◌}
+use Rattle.std.proofs.Common.{ℕ, ◌≡◌, ◌+◌, ◌*◌, ◌<◌, ◌≤◌, ◌⊎◌, List, [], ◌∷◌, Some, IsNone, length, refl, sym, ap, subst, arith, inl, inr, ◌∙◌}
+use Rattle.std.specs.Prelude.{slice_get}
 use Rattle.std.specs.List.{zip}
 use Rattle.std.proofs.lemmas.Bool.{cases_lt}
 use Rattle.std.proofs.lemmas.List.Sums.{count_by-le-length}
@@ -25,7 +26,8 @@ use Rattle.row_search.proofs.Columns.{all_fit, all_listed, listed_row}
 use Rattle.row_search.proofs.Least.{further_le}
 use Rattle.trail_log.specs.Fits.{TrailsFit}
 use Rattle.trail_check.specs.Accepted.{IsLow, least_gaps}
-use Rattle.open_gates.specs.Leveled.{levels_of}
+use Rattle.open_gates.specs.Leveled.{levels_in, levels_of}
+use Rattle.open_gates.specs.Open.{open_in}
 use Rattle.open_gates.proofs.Leveled.{levels_are}
 use Rattle.trail_check.specs.Leveled.{levels_for, open_of}
 use Rattle.trail_check.specs.Rows.{AreFewestGaps, HasChoices, HasRow}
@@ -35,7 +37,7 @@ use Rattle.trail_search.specs.declared.proof.Proof.{Proof}
 use Rattle.trail_search.specs.Proof.{HasReached, IsMostOf, IsProof, lemma_units}
 use Rattle.trail_search.proofs.Proving.{closed_levels, ends_more}
 use Rattle.trail_search.specs.declared.first.ListedRow.{ListedRow}
-use Rattle.trail_search.specs.Ended.{IsCertified, IsTrailFound, IsTrailSpent, WentForLemmas, WentForRows}
+use Rattle.trail_search.specs.Ended.{IsCertified, IsOpenedInVain, IsTrailFound, IsTrailSpent, WentForLemmas, WentForRows}
 use Rattle.trail_search.specs.First.{IsFirstRow, with_best}
 use Rattle.trail_search.specs.Visit.{IsFirstOf}
 
@@ -141,7 +143,24 @@ spent_is k f budget proof of_f kinds p kept work =
       work = work;
     }
 
+-- where no row of so few gaps is found, every arrangement has more
+have_more : (k : Kinds) (f : Fingers) (gaps : ℕ) → AreKinds f k → Need k (start_of k) (gaps + 1) → IsLow f (gaps + 1)
+have_more k f gaps of_f need row arranges =
+    omega (arith, need row (completion_of f k row of_f arranges), gaps_from_start k row)
+
 -- a row of the fewest gaps is found
 pub row_found : (k : Kinds) (f : Fingers) (gaps : ℕ) → AreKinds f k → AreFewestGaps f gaps → Need k (start_of k) (gaps + 1) → ⊥
-row_found k f gaps of_f h need =
-    omega (arith, need h.row (completion_of f k h.row of_f h.arranges), gaps_from_start k h.row, h.has)
+row_found k f gaps of_f h need = omega (arith, have_more k f gaps of_f need h.row h.arranges, h.has)
+
+-- where a gate is left open and no row of so few gaps is found
+pub opened_in_vain : (k : Kinds) (f : Fingers) (proof : Proof) (gate : NetNo) → AreFingers f → AreKinds f k → AreSomeKinds k → IsProof f proof → (proof.gaps < 31 → IsMostOf (levels_for f proof.trails) proof.gaps) → slice_get proof.opened 0 ≡ Some gate → Need k (start_of k) (proof.gaps + 1) → IsOpenedInVain f gate
+opened_in_vain k f proof gate ok of_f kinds p few first need =
+    let order : List NetNo = proof.trails.order in
+    record {
+      order = order;
+      is = p.gates.order;
+      first = ap (λ (gs : List NetNo). slice_get gs 0) (sym p.opened) ∙ first;
+      gaps = proof.gaps;
+      most = subst (λ (gs : List NetNo). IsMostOf (levels_in f (open_in f gs order) order) proof.gaps) p.fill (most_proved k f proof ok of_f kinds p few);
+      more = have_more k f proof.gaps of_f need;
+    }

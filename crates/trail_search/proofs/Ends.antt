@@ -134,7 +134,11 @@ most_is levels others gaps proved same is few all =
     few (subst (λ (ls : List Level). Ends ls [] (2 * (proved + 1) + 1)) (sym same) (subst (λ (n : ℕ). Ends others [] (2 * (n + 1) + 1)) is all))
 
 -- a limit that is not refuted
-pub has_most : (f : Fingers) (order : List NetNo) (levels : List Level) (lemmas : List TrailLemma) (s : List Place) (limit ends gaps : ℕ) (found : Bool) → IsOrder f order → levels ≡ levels_of f order → s ≡ [] → ends ≡ 2 * (limit + 1) → gaps ≡ gaps_proved (ends_proved lemmas) → (found ≡ false → is_known lemmas 0 s (ends + 1) ≡ true) → (found ≡ true → Ends (drop 0 levels) s (ends + 1) → ⊥) → nat_lt limit gaps ≡ false → HasMost f limit
+pub has_most : (f : Fingers) (order : List NetNo) (levels : List Level) (lemmas : List TrailLemma) (s : List Place)
+    (limit ends gaps : ℕ) (found : Bool) → IsOrder f order → levels ≡ levels_of f order → s ≡ [] →
+    ends ≡ 2 * (limit + 1) → gaps ≡ gaps_proved (ends_proved lemmas) →
+    (found ≡ false → is_known lemmas 0 s (ends + 1) ≡ true) → (found ≡ true → Ends (drop 0 levels) s (ends + 1) → ⊥) →
+    nat_lt limit gaps ≡ false → HasMost f limit
 has_most f order levels lemmas s limit ends gaps true is same none e count failed few not = (order, is, most_is levels (levels_of f order) limit limit same refl (not_refuted levels s limit ends none e (few refl)))
 has_most f order levels lemmas s limit ends gaps false is same none e count failed few not = absurd (above limit gaps not (omega (arith, count, refutes lemmas s limit ends none e (failed refl))))
   where

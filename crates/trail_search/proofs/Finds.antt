@@ -1,8 +1,9 @@
 -- What is found in a list, and in one whose items ascend.
-use Rattle.std.specs.Prelude.{ℕ, ◌≡◌, ◌<◌, ◌≤◌, Bool, true, false, List, [], ◌∷◌, Option, Some, None, AllPairs, Contains, find}
+use Rattle.std.specs.Prelude.{ℕ, ◌≡◌, ◌<◌, ◌≤◌, Bool, true, false, List, [], ◌∷◌, Some, None, AllPairs, Contains, find}
 use Rattle.std.proofs.Common.{refl, sym, ap, subst, arith, ◌∙◌, inl, inr}
 use Rattle.std.proofs.lemmas.Bool.{both_ways, cases_Bool}
 use Rattle.std.proofs.lemmas.List.Elements.{All-contains}
+use Rattle.std.proofs.lemmas.Option.{none-some}
 use Rattle.cell_num.proofs.Lists.{contains_cons, contains_here, contains_none, contains_there, some_same}
 use Rattle.cell_num.proofs.Pairs.{pairs_head, pairs_tail}
 use Rattle.trail_state.proofs.Members.{Passes}
@@ -15,10 +16,7 @@ find_off p y ys e = rw e refl
 
 -- what is found is there, and passes
 pub found_is : {X : Type 0} (p : X → Bool) (xs : List X) (x : X) → find p xs ≡ Some x → Passes p xs x
-found_is {X} p [] x e = absurd (nothing e)
-  where
-    nothing : ◌≡◌ {A = Option X} None (Some x) → ⊥
-    nothing none = cc
+found_is p [] x e = absurd (none-some x e)
 found_is p (y ∷ ys) x e =
     elim (cases_Bool (p y)) [
       | inl on ↦ subst (Passes p (y ∷ ys)) (some_same y x (sym (find_on p y ys on) ∙ e)) (record { there = contains_here y ys; passes = on })

@@ -110,7 +110,12 @@ listing levels all done s s1 bound line listed chained h made e1 whole is =
     let of_line : listed ≡ lemma_listed levels line = is ∙ ap (λ (ls : List Level). lemma_listed ls line) whole in
     record { made = line_is; is = of_line; lemma = of_line ∙ ap (lemma_listed levels) line_is ∙ lemma_back levels done s bound chained h }
 
-pub further_kept : (levels : List Level) (a b : Kept) (line : LemmaLine) (listed : TrailLemma) (done : ℕ) (s : List Place) (bound : ℕ) → done < 32 → 0 < bound → bound ≤ 64 → AreKept levels a → IsStateOf (nodes_of (slice_get levels done)) s → IsListing levels done s bound line listed → is_justified levels a.lemmas (lemma_of done s bound) ≡ true → is_known a.lemmas done s bound ≡ false → b.lines ≡ a.lines ++ line ∷ [] → b.lemmas ≡ a.lemmas ++ listed ∷ [] → IsIndexOf (a.lemmas ++ listed ∷ []) b.index → IsFurther levels a b
+pub further_kept : (levels : List Level) (a b : Kept) (line : LemmaLine) (listed : TrailLemma) (done : ℕ)
+    (s : List Place) (bound : ℕ) → done < 32 → 0 < bound → bound ≤ 64 → AreKept levels a →
+    IsStateOf (nodes_of (slice_get levels done)) s → IsListing levels done s bound line listed →
+    is_justified levels a.lemmas (lemma_of done s bound) ≡ true → is_known a.lemmas done s bound ≡ false →
+    b.lines ≡ a.lines ++ line ∷ [] → b.lemmas ≡ a.lemmas ++ listed ∷ [] → IsIndexOf (a.lemmas ++ listed ∷ []) b.index →
+    IsFurther levels a b
 further_kept levels a b line listed done s bound gates some few h valid it on unknown lines lemmas index =
     record {
       kept = record {
@@ -173,14 +178,22 @@ fails_dear known level done s after allowed ends choices i h more all =
     (subst (Fails known level done s (allowed + 1)) h.is (or_left (allowed + 1 - ends_after level.now level.next s h.choice == 0) (list_any (says (done + 1) (state_after level.now level.next s h.choice) (allowed + 1 - ends_after level.now level.next s h.choice)) known) none))
 
 -- or as many nodes that close are odd
-pub fails_odd : (known : List TrailLemma) (level : Level) (done : ℕ) (s : List Place) (allowed : ℕ) (closing : List ClosingNode) (choices : List (List Edge)) (i : ℕ) (item : List Edge) → i < length choices → item ≡ get_or choices i item → closing ≡ closing_nodes level s → allowed < odd_ends closing item → All (Fails known level done s (allowed + 1)) (take i choices) → All (Fails known level done s (allowed + 1)) (take (i + 1) choices)
+pub fails_odd : (known : List TrailLemma) (level : Level) (done : ℕ) (s : List Place) (allowed : ℕ)
+    (closing : List ClosingNode) (choices : List (List Edge)) (i : ℕ) (item : List Edge) → i < length choices →
+    item ≡ get_or choices i item → closing ≡ closing_nodes level s → allowed < odd_ends closing item →
+    All (Fails known level done s (allowed + 1)) (take i choices) →
+    All (Fails known level done s (allowed + 1)) (take (i + 1) choices)
 fails_odd known level done s allowed closing choices i item within is of_closing more all =
     let enough : allowed + 1 ≤ odd_ends closing item = omega (arith, more) in
     All-more (Fails known level done s (allowed + 1)) choices i item within all
     (subst (Fails known level done s (allowed + 1)) is (sym (reached_odd known level (lemma_of done s (allowed + 1)) closing item (odd_ends closing item) refl enough of_closing)))
 
 -- or so many more are known to come behind it
-pub fails_known : (known : List TrailLemma) (level : Level) (done : ℕ) (s after : List Place) (allowed ends : ℕ) (choices : List (List Edge)) (i : ℕ) → IsChoice level s choices i after ends → ends ≤ allowed → is_known known (done + 1) after (allowed - ends + 1) ≡ true → All (Fails known level done s (allowed + 1)) (take i choices) → All (Fails known level done s (allowed + 1)) (take (i + 1) choices)
+pub fails_known : (known : List TrailLemma) (level : Level) (done : ℕ) (s after : List Place) (allowed ends : ℕ)
+    (choices : List (List Edge)) (i : ℕ) → IsChoice level s choices i after ends → ends ≤ allowed →
+    is_known known (done + 1) after (allowed - ends + 1) ≡ true →
+    All (Fails known level done s (allowed + 1)) (take i choices) →
+    All (Fails known level done s (allowed + 1)) (take (i + 1) choices)
 fails_known known level done s after allowed ends choices i h few known_so all =
     let need : allowed - ends + 1 ≡ allowed + 1 - ends_after level.now level.next s h.choice = omega (arith, h.count, few) in
     All-more (Fails known level done s (allowed + 1)) choices i h.choice h.within all

@@ -1,7 +1,7 @@
 -- The gates that are not filled all have more fingers in one row.
-use Rattle.std.specs.Prelude.{ℕ, ◌≡◌, ◌<◌, ◌==◌, ◌&&◌, Bool, true, false, not, ltb, List, [], ◌∷◌, All, Contains, if◌then◌else◌}
-use Rattle.std.specs.List.{filter, list_any}
-use Rattle.std.proofs.Common.{refl, sym, ap, subst, arith, ◌∙◌, inl, inr}
+use Rattle.std.specs.Prelude.{◌≡◌, ◌<◌, ◌==◌, Bool, true, not, List, [], ◌∷◌, All, Contains, if◌then◌else◌}
+use Rattle.std.specs.List.{filter}
+use Rattle.std.proofs.Common.{refl, sym, ap, subst, arith, inl, inr}
 use Rattle.std.proofs.lemmas.Bool.{and_parts, both_ways, cases_Bool, eq-eqb, eqb-true, not-true, not_from_false}
 use Rattle.std.proofs.lemmas.List.Elements.{All-contains, All-head, All-nil}
 use Rattle.cell_num.proofs.Lists.{all_from_contains, contains_here}

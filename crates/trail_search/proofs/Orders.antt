@@ -3,7 +3,7 @@ use Rattle.std.specs.Prelude.{ℕ, ◌≡◌, ◌≢◌, ◌+◌, ◌<◌, ◌�
 use Rattle.std.specs.List.{filter, list_any, range_with_len}
 use Rattle.std.proofs.Common.{refl, sym, ap, subst, arith, ◌∙◌, inl, inr, get_or, append-nil}
 use Rattle.std.proofs.lemmas.Bool.{and_from, cases_Bool, cases_eq, cases_lt, eqb-true, ne_eqb, or_cases, or_left, or_right}
-use Rattle.std.proofs.lemmas.List.Elements.{All-contains, All-filter, All-head, All-tail}
+use Rattle.std.proofs.lemmas.List.Elements.{All-contains, All-filter}
 use Rattle.std.proofs.lemmas.List.FromFn.{get_or-range_with_len, length-range_with_len}
 use Rattle.std.proofs.lemmas.List.Kept.{AllPairs-filter}
 use Rattle.std.proofs.lemmas.List.Sorted.{All-permutation, Contains-permutation, IsPermutation-more}
@@ -12,13 +12,11 @@ use Rattle.cell_num.proofs.Lists.{all_from_contains, contains_here, contains_the
 use Rattle.cell_num.proofs.Pairs.{OneEach, Some', none_counted, one_each_permutation, pairs_differ, pairs_head, pairs_map, pairs_tail, test_finds}
 use Rattle.cell_num.proofs.Permutations.{count_cons}
 use Rattle.cell_num.specs.declared.net.NetNo.{NetNo}
-use Rattle.cell_num.specs.declared.finger.Row.{Row}
-use Rattle.cell_num.specs.declared.finger.Row.TheVariants.{P, N}
-use Rattle.cell_num.specs.declared.finger.Finger.{Finger}
 use Rattle.cell_num.specs.declared.finger.Fingers.{Fingers}
-use Rattle.cell_num.specs.Fingers.{AreFingers, IsFinger, on_gate}
+use Rattle.cell_num.specs.Fingers.{AreFingers, on_gate}
 use Rattle.row_state.specs.ClassSums.{sum_below_mono}
 use Rattle.trail_state.specs.Levels.{IsGate, IsOrder}
+use Rattle.trail_state.proofs.Law.{is_net_gate}
 use Rattle.trail_state.proofs.Members.{Passes, passes_from, passes_to}
 use Rattle.trail_state.proofs.Opened.{range_below, range_has}
 use Rattle.trail_state.proofs.Sizes.{sum_keys}
@@ -76,24 +74,6 @@ one_each {X} key (x ∷ xs) h n =
 
 -- ---- gates
 
--- a gate of a finger is a net
-below_nets : (r : Row) (nets g : ℕ) (fs : List Finger) → All (IsFinger r nets) fs → 0 < on_gate g fs → g < nets
-below_nets r nets g [] all some = absurd (omega (arith, some))
-below_nets r nets g (x ∷ xs) all some =
-    let f : IsFinger r nets x = All-head (IsFinger r nets) x xs all in
-    elim (cases_eq x.gate.0 g) [
-      | inl on ↦ omega (arith, f.gate, on)
-      | inr off ↦
-          let none : ◌≡◌ {A = ℕ} (cond (x.gate.0 == g) 1 0) 0 = rw (ne_eqb x.gate.0 g off) refl in
-          below_nets r nets g xs (All-tail (IsFinger r nets) x xs all) (omega (arith, some, none, count_cons (λ (y : Finger). y.gate.0 == g) x xs))
-    ]
-
-is_net : (f : Fingers) (g : ℕ) → AreFingers f → IsGate f g → g < f.nets
-is_net f g ok some = elim (cases_lt 0 (on_gate g f.p)) [
-  | inl p ↦ below_nets P f.nets g f.p ok.p p
-  | inr none ↦ below_nets N f.nets g f.n ok.n (omega (arith, some, none))
-]
-
 positive : (n : ℕ) → ltb 0 n ≡ true → 0 < n
 positive n h = grind (arith, h)
 
@@ -130,11 +110,11 @@ pub order_is : (f : Fingers) (order : List NetNo) → AreFingers f → IsPermuta
 order_is f order ok p = record {
   once = pairs_differ net_rank order (one_each_permutation net_rank (gates_of f) order p (one_each net_rank (gates_of f) (nets_differ (has_finger f) f.nets)));
   gates = All-permutation (λ (g : NetNo). IsGate f g.0) (gates_of f) order p (all_from_contains (λ (g : NetNo). IsGate f g.0) (gates_of f) (λ g there. gate_from f g.0 (listed_from (has_finger f) f.nets g there).0));
-  all_gates = λ g some. Contains-permutation (gates_of f) order g p (listed_to (has_finger f) f.nets g (gate_to f g.0 some) (is_net f g.0 ok some));
+  all_gates = λ g some. Contains-permutation (gates_of f) order g p (listed_to (has_finger f) f.nets g (gate_to f g.0 some) (is_net_gate f g.0 ok some));
 }
 
 pub order_fits : (f : Fingers) (order : List NetNo) → AreFingers f → IsOrder f order → All (NetFits f.nets) order
-order_fits f order ok is = all_from_contains (NetFits f.nets) order (λ g there. is_net f g.0 ok (All-contains (λ (h : NetNo). IsGate f h.0) order g is.gates there))
+order_fits f order ok is = all_from_contains (NetFits f.nets) order (λ g there. is_net_gate f g.0 ok (All-contains (λ (h : NetNo). IsGate f h.0) order g is.gates there))
 
 -- there are no more gates than columns
 pub order_short : (f : Fingers) (order : List NetNo) → AreFingers f → IsOrder f order → length order ≤ 32
@@ -162,7 +142,7 @@ order_short f order ok is =
 -- ---- filled gates
 
 pub uneven_has : (f : Fingers) (g : NetNo) → AreFingers f → IsGate f g.0 → is_uneven f g.0 ≡ true → Contains (uneven_gates f) g
-uneven_has f g ok some uneven = listed_to (is_uneven f) f.nets g uneven (is_net f g.0 ok some)
+uneven_has f g ok some uneven = listed_to (is_uneven f) f.nets g uneven (is_net_gate f g.0 ok some)
 
 pub fill_fits : (f : Fingers) (order : List NetNo) → All (NetFits f.nets) (filled_gates f order)
 fill_fits f order =

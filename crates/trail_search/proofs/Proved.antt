@@ -1,5 +1,5 @@
 -- What kept lemmas prove of every arrangement.
-use Rattle.std.specs.Prelude.{ℕ, zero, suc, ◌≡◌, ◌+◌, ◌*◌, ◌/◌, ◌%◌, ◌<◌, ◌≤◌, ◌&&◌, Bool, true, false, ltb, nat_lt, List, [], ◌∷◌, Option, Some, None, All, IfSome, Contains, if◌then◌else◌, ◌==◌, length, map, slice_get}
+use Rattle.std.specs.Prelude.{ℕ, zero, suc, ◌≡◌, ◌+◌, ◌*◌, ◌/◌, ◌%◌, ◌<◌, ◌≤◌, ◌&&◌, Bool, true, false, ltb, nat_lt, List, [], ◌∷◌, Option, Some, None, All, Contains, if◌then◌else◌, ◌==◌, length, map, slice_get}
 use Rattle.std.specs.List.{filter, range_with_len}
 use Rattle.std.proofs.Common.{inr, refl, sym, ap, subst, arith, ◌∙◌}
 use Rattle.std.proofs.lemmas.Bool.{and_parts}
@@ -22,13 +22,12 @@ use Rattle.trail_state.specs.declared.edge.Node.{Node}
 use Rattle.trail_state.specs.Places.{node_at}
 use Rattle.trail_state.specs.declared.level.Level.{Level}
 use Rattle.trail_state.proofs.Law.{levels_law}
-use Rattle.trail_state.specs.Levels.{AreLevels, Ends, IsOrder}
+use Rattle.trail_state.specs.Levels.{AreLevels, IsOrder}
 use Rattle.trail_state.proofs.Members.{Passes, passes_from}
 use Rattle.trail_state.specs.Nodes.{any_can_meet, can_meet, has_net, is_net_in, is_net_on, may_have, open_nodes}
 use Rattle.trail_state.proofs.Opened.{in_net, net_below, range_below}
 use Rattle.trail_log.specs.Fits.{LemmaFits}
 use Rattle.open_gates.specs.Leveled.{levels_of}
-use Rattle.open_gates.proofs.Leveled.{levels_are}
 use Rattle.trail_check.specs.declared.lemma.TrailLemma.{TrailLemma}
 use Rattle.trail_check.specs.Gates.{first_with_many, has_many_ways}
 use Rattle.trail_check.specs.Indexed.{IsIndexOf}
@@ -157,7 +156,11 @@ all_listed f order levels same few =
     ap (λ (o : Option NetNo). listed_units o (levels_of f order)) few ∙ ap (λ (ls : List Level). listed_units None ls) (sym same)
 
 -- the units of a search that began without lemmas went for a list of the choices, and for the lemmas that it kept
-pub attempted : (f : Fingers) (order : List NetNo) (levels : List Level) (before after : Kept) (limit left left_on left_after others : ℕ) → IsOrder f order → levels ≡ levels_of f order → first_with_many f order ≡ None → left_on + listed_units None levels ≡ left → before.lemmas ≡ [] → AreKept levels after → AreReached levels limit after.lemmas → others ≤ path_units levels + 1 → AreTied levels before after left_on left_after others → AttemptsOnce f limit left left_after
+pub attempted : (f : Fingers) (order : List NetNo) (levels : List Level) (before after : Kept)
+    (limit left left_on left_after others : ℕ) → IsOrder f order → levels ≡ levels_of f order →
+    first_with_many f order ≡ None → left_on + listed_units None levels ≡ left → before.lemmas ≡ [] →
+    AreKept levels after → AreReached levels limit after.lemmas → others ≤ path_units levels + 1 →
+    AreTied levels before after left_on left_after others → AttemptsOnce f limit left left_after
 attempted f order levels before after limit left left_on left_after others is same few went none h reached more tied =
     let listed : listed_units (first_with_many f order) (levels_of f order) ≡ listed_units None levels = all_listed f order levels same few in
     let lemmas : units_of (levels_of f order) after.lemmas ≡ units_of levels after.lemmas = ap (λ (ls : List Level). units_of ls after.lemmas) (sym same) in

@@ -1,20 +1,17 @@
 -- What kept lemmas prove of every arrangement, where gates may be left open.
-use Rattle.std.specs.Prelude.{ℕ, ◌≡◌, ◌+◌, ◌*◌, ◌<◌, ◌≤◌, ◌==◌, Bool, true, if◌then◌else◌, List, [], Option, Some, None, All, IfSome, Contains, length, slice_get}
+use Rattle.std.specs.Prelude.{ℕ, ◌≡◌, ◌+◌, ◌*◌, ◌<◌, ◌≤◌, ◌==◌, if◌then◌else◌, not, List, [], Option, Some, None, All, IfSome, length, slice_get}
 use Rattle.std.specs.List.{filter}
 use Rattle.std.proofs.Common.{◌∷◌, refl, sym, ap, subst, arith, ◌∙◌}
-use Rattle.std.proofs.lemmas.Bool.{and_parts}
 use Rattle.cell_num.specs.declared.net.NetNo.{NetNo}
 use Rattle.cell_num.specs.declared.finger.Fingers.{Fingers}
 use Rattle.cell_num.specs.Fingers.{AreFingers}
-use Rattle.cell_num.proofs.Lists.{contains_get, contains_here}
 use Rattle.row_model.specs.declared.column.Column.{Column}
 use Rattle.row_model.specs.Arrangement.{IsArrangement}
 use Rattle.row_model.specs.Gaps.{gaps_of}
 use Rattle.trail_state.specs.declared.level.Level.{Level}
 use Rattle.trail_state.specs.Levels.{Ends, IsOrder}
-use Rattle.trail_state.proofs.Members.{passes_from}
 use Rattle.open_gates.specs.Leveled.{levels_of, merged_levels}
-use Rattle.open_gates.specs.Open.{AreOpenGates, has_more, open_in, row_of}
+use Rattle.open_gates.specs.Open.{AreOpenGates, closed_in, open_in}
 use Rattle.open_gates.proofs.Law.{open_law}
 use Rattle.bound_log.specs.declared.log.Best.{Best}
 use Rattle.bound_log.specs.Fits.{BestFits}
@@ -22,16 +19,16 @@ use Rattle.trail_log.specs.declared.trails.TrailCertificate.{TrailCertificate}
 use Rattle.trail_log.specs.Order.{increases, net_rank}
 use Rattle.trail_log.specs.Fits.{LemmaFits, NetFits}
 use Rattle.trail_check.specs.declared.lemma.TrailLemma.{TrailLemma}
-use Rattle.trail_check.specs.Gates.{AreGates, HasFewWays, has_many_ways}
+use Rattle.trail_check.specs.Gates.{AreGates, HasFewWays, first_with_many}
 use Rattle.trail_check.specs.Justified.{ends_proved, gaps_proved, unproved}
 use Rattle.trail_check.specs.Leveled.{levels_for, open_of}
 use Rattle.trail_check.specs.Listed.{lemmas_listed}
 use Rattle.trail_check.proofs.Sound.{ends_true}
 use Rattle.trail_search.specs.declared.kept.Kept.{Kept}
 use Rattle.trail_search.specs.declared.proof.Proof.{Proof}
-use Rattle.trail_search.specs.Filling.{crowded_gates, filled_gates, is_crowded, is_uneven, opened_gates}
+use Rattle.trail_search.specs.Filling.{filled_gates, is_one_of, opened_gates, uneven_gates}
 use Rattle.trail_search.specs.Line.{AllNodes}
-use Rattle.trail_search.specs.Proof.{IsProof}
+use Rattle.trail_search.specs.Proof.{IsClosedWithMany, IsProof}
 use Rattle.trail_search.specs.Reached.{AreReached}
 use Rattle.trail_search.specs.Search.{AreKept, AreNew}
 use Rattle.trail_search.proofs.Opening.{none_unfilled, open_gates_are}
@@ -54,7 +51,12 @@ gates_are f trails ok is fill = record {
   opened = subst (λ (gs : List NetNo). AreOpenGates f (open_in f gs trails.order)) (sym fill) (open_gates_are f ok trails.order is);
 }
 
-pub is_proof : (f : Fingers) (proof : Proof) (levels : List Level) (kept : Kept) → AreFingers f → IsOrder f proof.trails.order → HasFewWays f proof.trails → levels ≡ levels_for f proof.trails → AreKept levels kept → AreReached levels (gaps_proved (ends_proved kept.lemmas)) kept.lemmas → proof.opened ≡ opened_gates f proof.trails.order → proof.trails.fill ≡ filled_gates f proof.trails.order → proof.trails.lemmas ≡ kept.lines → proof.trails.best ≡ None → proof.gaps ≡ gaps_proved (ends_proved kept.lemmas) → IsProof f proof
+pub is_proof : (f : Fingers) (proof : Proof) (levels : List Level) (kept : Kept) → AreFingers f →
+    IsOrder f proof.trails.order → HasFewWays f proof.trails → levels ≡ levels_for f proof.trails →
+    AreKept levels kept → AreReached levels (gaps_proved (ends_proved kept.lemmas)) kept.lemmas →
+    proof.opened ≡ opened_gates f proof.trails.order → proof.trails.fill ≡ filled_gates f proof.trails.order →
+    proof.trails.lemmas ≡ kept.lines → proof.trails.best ≡ None → proof.gaps ≡ gaps_proved (ends_proved kept.lemmas) →
+    IsProof f proof
 is_proof f proof levels kept ok is few same h reached opened fill lines none gaps =
     let gates : AreGates f proof.trails = gates_are f proof.trails ok is fill in
     let listed : lemmas_listed (levels_for f proof.trails) proof.trails.lemmas ≡ kept.lemmas = ap (λ (ls : List Level). lemmas_listed ls proof.trails.lemmas) (sym same) ∙ ap (lemmas_listed levels) lines ∙ h.listed in
@@ -94,9 +96,15 @@ pub none_opened : (f : Fingers) (proof : Proof) → AreFingers f → IsProof f p
 none_opened f proof ok p none =
     subst (λ (gs : List NetNo). (open_in f gs proof.trails.order).gates ≡ []) (sym p.fill) (none_unfilled f ok proof.trails.order p.gates.order (sym p.opened ∙ no_first proof.opened none))
 
--- a gate that is left open has too many ways
-pub opened_crowded : (f : Fingers) (proof : Proof) (gate : NetNo) → IsProof f proof → slice_get proof.opened 0 ≡ Some gate → has_many_ways f gate ≡ true
-opened_crowded f proof gate p first =
-    let there : Contains (opened_gates f proof.trails.order) gate = subst (λ (gs : List NetNo). Contains gs gate) p.opened (contains_get proof.opened 0 gate first) in
-    let crowded : Contains (crowded_gates f proof.trails.order) gate = (passes_from (has_more (row_of f (crowded_gates f proof.trails.order)) f) (crowded_gates f proof.trails.order) gate there).there in
-    (and_parts (is_uneven f gate.0) (has_many_ways f gate) (passes_from (is_crowded f) proof.trails.order gate crowded).passes).1
+-- the gates that are filled, by those that are left open
+pub filled_are : (f : Fingers) (order opened fill : List NetNo) → opened ≡ opened_gates f order → fill ≡ filter (λ gate. not (is_one_of opened gate)) (uneven_gates f) → fill ≡ filled_gates f order
+filled_are f order opened fill same others =
+    others ∙ ap (λ (gs : List NetNo). filter (λ (g : NetNo). not (is_one_of gs g)) (uneven_gates f)) same
+
+-- the first gate with too many ways that is not left open
+pub closed_many : (f : Fingers) (order fill : List NetNo) (o : Option NetNo) (gate : NetNo) → IsOrder f order → fill ≡ filled_gates f order → o ≡ first_with_many f (closed_in f fill order) → o ≡ Some gate → IsClosedWithMany f gate
+closed_many f order fill o gate is filled first some = record {
+  order = order;
+  is = is;
+  first = ap (λ (gs : List NetNo). first_with_many f (closed_in f gs order)) (sym filled) ∙ sym first ∙ some;
+}

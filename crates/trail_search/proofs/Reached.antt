@@ -47,7 +47,10 @@ pub within_same : (levels : List Level) (done : ℕ) (s : List Place) (bound : �
 within_same levels done s bound kept = λ most here all. all
 
 -- behind a choice
-pub within_then : (levels : List Level) (level : Level) (done : ℕ) (s after : List Place) (allowed ends : ℕ) (choices : List (List Edge)) (i : ℕ) (a b c : Kept) → slice_get levels done ≡ Some level → choices ≡ level.choices → IsChoice level s choices i after ends → ends ≤ allowed → StayWithin levels done s (allowed + 1) a b → StayWithin levels (done + 1) after (allowed - ends + 1) b c → StayWithin levels done s (allowed + 1) a c
+pub within_then : (levels : List Level) (level : Level) (done : ℕ) (s after : List Place) (allowed ends : ℕ)
+    (choices : List (List Edge)) (i : ℕ) (a b c : Kept) → slice_get levels done ≡ Some level → choices ≡ level.choices →
+    IsChoice level s choices i after ends → ends ≤ allowed → StayWithin levels done s (allowed + 1) a b →
+    StayWithin levels (done + 1) after (allowed - ends + 1) b c → StayWithin levels done s (allowed + 1) a c
 within_then levels level done s after allowed ends choices i a b c at same h few g behind =
     λ most here all. behind most (within_behind levels level done s after allowed ends most choices i at same h few here) (g most here all)
 

@@ -10,7 +10,7 @@ use Rattle.trail_search.proofs.Tried.{first_found, none_found, true_none}
 
 pub ruleset row_from_rules = (true_none, first_found, none_found, searched)
 
-pub ruleset prove_rules = (none_kept, is_proof, open_short, gate_crowded)
+pub ruleset prove_rules = (none_kept, is_proof, open_short)
 
 pub ruleset is_refuted_rules = (state_first, none_kept, kept_least, levels_short, gate_crowded)
 

@@ -117,17 +117,34 @@ state_within_here : (k : Kinds) (s : State) (most : ℕ) (high : ℕ) → IsStat
 state_within_here k s most high h = h
 
 -- the next state has one column less
-pub spent_behind : (k : Kinds) (s after : State) (step : Step) (cost most inner : ℕ) (a b c : Known) (left left_on left_after : ℕ) → AreSomeKinds k → IsPossible k s step → after ≡ state_after k s step → cost ≡ cost_of s (column_of k step) → inner + cost ≤ most → IsSpent k (columns_left k s) s most a b left left_on 1 → IsSpent k (columns_left k after + 1) after inner b c left_on left_after 0 → IsSpent k (columns_left k s) s most a c left left_after 1
+pub spent_behind : (k : Kinds) (s after : State) (step : Step) (cost most inner : ℕ) (a b c : Known)
+    (left left_on left_after : ℕ) → AreSomeKinds k → IsPossible k s step → after ≡ state_after k s step →
+    cost ≡ cost_of s (column_of k step) → inner + cost ≤ most → IsSpent k (columns_left k s) s most a b left left_on 1 →
+    IsSpent k (columns_left k after + 1) after inner b c left_on left_after 0 →
+    IsSpent k (columns_left k s) s most a c left left_after 1
 spent_behind k s after step cost most inner a b c left left_on left_after some possible ea ec up h behind =
     let less : columns_left k s ≡ columns_left k after + 1 = fewer_after k s step some possible ∙ ap (λ (z : State). columns_left k z + 1) (sym ea) in
-    spent_more k (columns_left k s) (columns_left k s) s s most most a c left left_after 1 1 (omega arith) (omega arith) (omega arith) (state_within_here k s most) (spent_then k (columns_left k s) s most a b c left left_on left_after 1 0 h (spent_more k (columns_left k after + 1) (columns_left k s) after s inner most b c left_on left_after 0 0 (omega (arith, less)) (omega (arith, up)) (omega arith) (state_within_after k s after step cost most inner some possible ea ec up) behind))
+    spent_more k (columns_left k s) (columns_left k s) s s most most a c left left_after 1 1 (omega arith) (omega arith)
+    (omega arith) (state_within_here k s most) (spent_then k (columns_left k s) s most a b c left left_on left_after
+    1 0 h (spent_more k (columns_left k after + 1) (columns_left k s) after s inner most b c left_on left_after 0 0
+    (omega (arith, less)) (omega (arith, up)) (omega arith) (state_within_after k s after step cost most inner some
+    possible ea ec up) behind))
 
 -- no node is left behind it
-pub spent_halt : (k : Kinds) (s after : State) (step : Step) (cost most inner : ℕ) (a b c : Known) (why : Halt) (left left_on left_after : ℕ) → AreSomeKinds k → IsPossible k s step → after ≡ state_after k s step → cost ≡ cost_of s (column_of k step) → inner + cost ≤ most → IsSpent k (columns_left k s) s most a b left left_on 1 → IfSpent why (IsSpent k (columns_left k after + 1) after inner b c left_on left_after (columns_left k after)) → IfSpent why (IsSpent k (columns_left k s + 1) s most a c left left_after (columns_left k s))
+pub spent_halt : (k : Kinds) (s after : State) (step : Step) (cost most inner : ℕ) (a b c : Known) (why : Halt)
+    (left left_on left_after : ℕ) → AreSomeKinds k → IsPossible k s step → after ≡ state_after k s step →
+    cost ≡ cost_of s (column_of k step) → inner + cost ≤ most → IsSpent k (columns_left k s) s most a b left left_on 1 →
+    IfSpent why (IsSpent k (columns_left k after + 1) after inner b c left_on left_after (columns_left k after)) →
+    IfSpent why (IsSpent k (columns_left k s + 1) s most a c left left_after (columns_left k s))
 spent_halt k s after step cost most inner a b c halted.NoMemory left left_on left_after some possible ea ec up h behind = tt
 spent_halt k s after step cost most inner a b c halted.Spent left left_on left_after some possible ea ec up h behind =
     let less : columns_left k s ≡ columns_left k after + 1 = fewer_after k s step some possible ∙ ap (λ (z : State). columns_left k z + 1) (sym ea) in
-    spent_more k (columns_left k s) (columns_left k s + 1) s s most most a c left left_after (1 + columns_left k after) (columns_left k s) (omega arith) (omega arith) (omega (arith, less)) (state_within_here k s most) (spent_then k (columns_left k s) s most a b c left left_on left_after 1 (columns_left k after) h (spent_more k (columns_left k after + 1) (columns_left k s) after s inner most b c left_on left_after (columns_left k after) (columns_left k after) (omega (arith, less)) (omega (arith, up)) (omega arith) (state_within_after k s after step cost most inner some possible ea ec up) behind))
+    spent_more k (columns_left k s) (columns_left k s + 1) s s most most a c left left_after (1 + columns_left k after)
+    (columns_left k s) (omega arith) (omega arith) (omega (arith, less)) (state_within_here k s most)
+    (spent_then k (columns_left k s) s most a b c left left_on left_after 1 (columns_left k after) h
+    (spent_more k (columns_left k after + 1) (columns_left k s) after s inner most b c left_on left_after
+    (columns_left k after) (columns_left k after) (omega (arith, less)) (omega (arith, up)) (omega arith)
+    (state_within_after k s after step cost most inner some possible ea ec up) behind))
 
 -- nor behind the attempt at the state itself
 pub spent_in : (k : Kinds) (s : State) (most : ℕ) (known : Known) (why : Halt) (left left_on left_after : ℕ) → AreSomeKinds k → HasFingers k s → left_on + 1 ≡ left → IfSpent why (TriesOnce k s most left_on left_after) → IfSpent why (IsSpent k (columns_left k s + 1) s most known known left left_after (columns_left k s))

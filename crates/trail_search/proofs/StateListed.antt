@@ -4,6 +4,7 @@ use Rattle.std.specs.List.{cons_option, filter, filter_map}
 use Rattle.std.proofs.Common.{refl, sym, ap, arith, ◌∙◌, inl, inr}
 use Rattle.std.proofs.lemmas.Bool.{both_ways, cases_Bool, eq-eqb, eqb-true, false_from_ne_true}
 use Rattle.std.proofs.lemmas.List.Elements.{All-contains}
+use Rattle.std.proofs.lemmas.Option.{none-some}
 use Rattle.cell_num.proofs.In.{Image, contains_map, in_map}
 use Rattle.cell_num.proofs.Lists.{contains_cons, contains_here, contains_none, contains_there}
 use Rattle.cell_num.proofs.Pairs.{Some', pairs_head, pairs_tail, test_finds, test_there}
@@ -150,10 +151,7 @@ module _ (nodes : List Node) (ascend : AllPairs (λ (a b : Node). a.0 < b.0) nod
       at class r on =
           let q : IsOne s (is_of r.name.class.0) v.0 = one_of s (is_of r.name.class.0) v (ap (lists v) r.is ∙ on) in
           let f : Found (λ (p : Place). p.node.0 == v.0) s = found_from (λ (p : Place). p.node.0 == v.0) s q.it q.there (eq-eqb q.it.node.0 v.0 q.node) in
-          nothing f.it (sym none ∙ f.is)
-        where
-          nothing : (p : Place) → ◌≡◌ {A = Option Place} None (Some p) → ⊥
-          nothing p e = cc
+          none-some f.it (sym none ∙ f.is)
 
   module _ (v : Node) (p : Place) (there : Contains s p) (node : p.node.0 ≡ v.0) where
     -- a class that lists the node is the place's

@@ -3,6 +3,7 @@ use Rattle.std.specs.Prelude.{ℕ, ◌≡◌, ◌<◌, ◌≤◌, ◌==◌, ◌|
 use Rattle.std.proofs.Common.{refl, sym, ap, subst, arith, ◌∙◌, inl, inr}
 use Rattle.std.proofs.lemmas.Bool.{both_ways, cases_Bool, cases_lt, eq-eqb, eqb-true, or_left, or_right}
 use Rattle.std.proofs.lemmas.List.Kept.{AllPairs-filter}
+use Rattle.std.proofs.lemmas.Option.{none-some}
 use Rattle.cell_num.proofs.In.{contains_map}
 use Rattle.cell_num.proofs.Lists.{Kept, all_from_contains, contains_none, kept_from, some_same}
 use Rattle.cell_num.proofs.Pairs.{Some', pairs_map, pairs_none, test_finds}
@@ -34,10 +35,7 @@ abbrev Origin : List Place → ℕ → Place → Type 0
 Origin s v p = (Contains s p × (p.node.0 ≡ v)) ⊎ ((At s v → ⊥) × (p ≡ new_place v))
 
 not_there : (s : List Place) (v : ℕ) → place_of s v ≡ None → At s v → ⊥
-not_there s v none at = let f : Found (λ (p : Place). p.node.0 == v) s = at_found s v at in differ f.it (sym none ∙ f.is)
-  where
-    differ : (p : Place) → ◌≡◌ {A = Option Place} None (Some p) → ⊥
-    differ p e = cc
+not_there s v none at = let f : Found (λ (p : Place). p.node.0 == v) s = at_found s v at in none-some f.it (sym none ∙ f.is)
 
 origin : (s : List Place) (c : List Edge) (v : ℕ) (p : Place) → met_place s c v ≡ Some p → Origin s v p
 origin s c v p e = by_place (place_of s v) refl (is_met c v) e

@@ -56,7 +56,12 @@ none_not k s allowed items i d b all within tells off = All-more (HasNone k s al
 pub none_dear : (k : Kinds) (s : State) (allowed cost : ℕ) (items : List Candidate) (i : ℕ) (d : Candidate) → All (HasNone k s allowed) (take i items) → i < length items → cost ≡ cost_of s (column_of k (get_or items i d).step) → allowed < cost → All (HasNone k s allowed) (take (i + 1) items)
 none_dear k s allowed cost items i d all within ec dear = All-more (HasNone k s allowed) items i d within all (λ possible row h. omega (arith, ec, dear))
 
-pub none_known : (k : Kinds) (s : State) (allowed cost code told : ℕ) (known : Known) (items : List Candidate) (i : ℕ) (d : Candidate) → AreSomeKinds k → IsState k s → AreTrue k known → All (HasNone k s allowed) (take i items) → i < length items → IsPossible k s (get_or items i d).step → cost ≡ cost_of s (column_of k (get_or items i d).step) → code ≡ state_code k (state_after k s (get_or items i d).step) → ((k : Kinds) (s : State) → state_code k s ≡ code → told ≡ best_known known k s) → allowed - cost < told → All (HasNone k s allowed) (take (i + 1) items)
+pub none_known : (k : Kinds) (s : State) (allowed cost code told : ℕ) (known : Known) (items : List Candidate) (i : ℕ)
+    (d : Candidate) → AreSomeKinds k → IsState k s → AreTrue k known → All (HasNone k s allowed) (take i items) →
+    i < length items → IsPossible k s (get_or items i d).step → cost ≡ cost_of s (column_of k (get_or items i d).step) →
+    code ≡ state_code k (state_after k s (get_or items i d).step) →
+    ((k : Kinds) (s : State) → state_code k s ≡ code → told ≡ best_known known k s) → allowed - cost < told →
+    All (HasNone k s allowed) (take (i + 1) items)
 none_known k s allowed cost code told known items i d kinds valid holds all within possible ec is tells above =
     let after : State = state_after k s (get_or items i d).step in
     let best : told ≡ best_known known k after = tells k after (sym is) in
@@ -81,7 +86,12 @@ pub found_leaf : (k : Kinds) (s : State) (allowed : ℕ) (steps : List Step) (b 
 found_leaf k s allowed steps b e tells off =
     subst (IsFirstOf k s allowed) (sym e) (record { row = leaf k s allowed (λ some. let yes : b ≡ true = tells.1 some in cc); sound = All-nil (IsStep k) })
 
-pub found_behind : (k : Kinds) (s after : State) (allowed cost : ℕ) (items : List Candidate) (i : ℕ) (d : Candidate) (rest pushed : List Step) → AreSomeKinds k → HasFingers k s → AreCandidates k items → IsState k s → i < length items → IsPossible k s (get_or items i d).step → All (HasNone k s allowed) (take i items) → cost ≡ cost_of s (column_of k (get_or items i d).step) → cost ≤ allowed → after ≡ state_after k s (get_or items i d).step → IsFirstOf k after (allowed - cost) rest → pushed ≡ rest ++ (get_or items i d).step ∷ [] → IsFirstOf k s allowed pushed
+pub found_behind : (k : Kinds) (s after : State) (allowed cost : ℕ) (items : List Candidate) (i : ℕ) (d : Candidate)
+    (rest pushed : List Step) → AreSomeKinds k → HasFingers k s → AreCandidates k items → IsState k s →
+    i < length items → IsPossible k s (get_or items i d).step → All (HasNone k s allowed) (take i items) →
+    cost ≡ cost_of s (column_of k (get_or items i d).step) → cost ≤ allowed →
+    after ≡ state_after k s (get_or items i d).step → IsFirstOf k after (allowed - cost) rest →
+    pushed ≡ rest ++ (get_or items i d).step ∷ [] → IsFirstOf k s allowed pushed
 found_behind k s after allowed cost items i d rest pushed kinds some are valid within possible tried ec cheap ea h ep =
     record {
       row = first_among k s after allowed cost items i d rest pushed (gates_are_nets k kinds) some (candidates_ordered k items s are valid) within possible tried ec cheap ea h.row ep;

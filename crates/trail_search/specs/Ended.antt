@@ -1,5 +1,5 @@
 -- How a search ended: with the first least row and its certificate, or with what is proved without a row.
-use Rattle.std.specs.Prelude.{ℕ, ◌≡◌, ◌≤◌, ◌+◌, ◌-◌, ◌⊎◌, true, List, [], None, IsNone}
+use Rattle.std.specs.Prelude.{ℕ, ◌≡◌, ◌≤◌, ◌+◌, ◌-◌, ◌⊎◌, List, [], Some, None, IsNone, slice_get}
 use Rattle.cell_num.specs.declared.net.NetNo.{NetNo}
 use Rattle.cell_num.specs.declared.finger.Fingers.{Fingers}
 use Rattle.cell_num.specs.Fingers.{columns_of}
@@ -10,11 +10,13 @@ use Rattle.log_check.specs.Accepted.{Lists, WithKinds}
 use Rattle.row_search.specs.First.{IsFirstLeast}
 use Rattle.trail_log.specs.declared.trails.TrailCertificate.{TrailCertificate}
 use Rattle.trail_log.specs.Fits.{TrailsFit}
+use Rattle.trail_state.specs.Levels.{IsOrder}
 use Rattle.trail_check.specs.Accepted.{IsAccepted, IsLow, first_unproved, least_gaps}
-use Rattle.trail_check.specs.Gates.{AreGates, HasFewWays, has_many_ways}
+use Rattle.trail_check.specs.Gates.{AreGates, HasFewWays}
 use Rattle.trail_check.specs.Leveled.{open_of}
 use Rattle.trail_check.specs.Rows.{AreFewestGaps}
-use Rattle.trail_search.specs.Proof.{HasNew, HasReached, gate_units, lemma_units}
+use Rattle.trail_search.specs.Filling.{opened_gates, search_levels}
+use Rattle.trail_search.specs.Proof.{HasNew, HasReached, IsClosedWithMany, IsMostOf, gate_units, lemma_units}
 use Rattle.trail_search.specs.Searched.{AreSearched}
 use Rattle.trail_search.specs.declared.found.TrailFound.{TrailFound}
 use Rattle.trail_search.specs.declared.found.TrailStop.{TrailStop}
@@ -68,9 +70,19 @@ pub record IsTrailSpent (f : Fingers) (budget : ℕ) (trails : TrailCertificate)
   pub kept : lemma_units f trails ≤ budget
   pub work : WentForLemmas f budget trails ⊎ WentForRows f budget trails proved
 
--- The fingers of the gate pair in more ways than a checker lists. Whether it could be left open is not said.
+-- For an order of the gates the gate is the first that is left open, since it has too many ways. With such gates left
+-- open no lemmas over the order prove more than so many gaps, and every arrangement has more.
+pub record IsOpenedInVain (f : Fingers) (gate : NetNo) : Type 0 where
+  pub order : List NetNo
+  pub is : IsOrder f order
+  pub first : slice_get (opened_gates f order) 0 ≡ Some gate
+  pub gaps : ℕ
+  pub most : IsMostOf (search_levels f order) gaps
+  pub more : IsLow f (gaps + 1)
+
+-- The gate has too many ways to be filled. It is not left open; or it is, and what is proved then is too low.
 abbrev pub IsCrowded : Fingers → NetNo → Type 0
-IsCrowded f gate = has_many_ways f gate ≡ true
+IsCrowded f gate = IsClosedWithMany f gate ⊎ IsOpenedInVain f gate
 
 abbrev pub IsFound : Fingers → ℕ → TrailFound → Type 0
 IsFound f budget found = IsTrailFound f budget found.row found.trails

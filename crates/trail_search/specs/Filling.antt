@@ -1,10 +1,12 @@
--- Which gates with half columns a search fills, and which it leaves open.
+-- Which gates with half columns a search fills, which it leaves open, and the levels that it has then.
 use Rattle.std.specs.Prelude.{ℕ, ◌==◌, ◌&&◌, Bool, not, List, map}
 use Rattle.std.specs.List.{filter, list_any, range_with_len}
 use Rattle.cell_num.specs.declared.net.NetNo.{NetNo}
 use Rattle.cell_num.specs.declared.finger.Fingers.{Fingers}
 use Rattle.cell_num.specs.Fingers.{on_gate}
-use Rattle.open_gates.specs.Open.{has_more, row_of}
+use Rattle.trail_state.specs.declared.level.Level.{Level}
+use Rattle.open_gates.specs.Leveled.{levels_in}
+use Rattle.open_gates.specs.Open.{closed_in, has_more, open_in, row_of}
 use Rattle.trail_check.specs.Gates.{has_many_ways}
 
 -- more fingers of the gate in one row than in the other
@@ -36,3 +38,11 @@ is_one_of gates gate = list_any (λ (g : NetNo). g.0 == gate.0) gates
 -- the other gates with half columns are filled
 abbrev pub filled_gates : Fingers → List NetNo → List NetNo
 filled_gates f order = filter (λ gate. not (is_one_of (opened_gates f order) gate)) (uneven_gates f)
+
+-- the gates of the order that are not left open
+abbrev pub closed_gates : Fingers → List NetNo → List NetNo
+closed_gates f order = closed_in f (filled_gates f order) order
+
+-- the levels of the order, with the others left open
+abbrev pub search_levels : Fingers → List NetNo → List Level
+search_levels f order = levels_in f (open_in f (filled_gates f order) order) order

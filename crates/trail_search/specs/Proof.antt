@@ -1,5 +1,5 @@
 -- What lemmas prove of every arrangement of some fingers, and how the search for them ends.
-use Rattle.std.specs.Prelude.{ℕ, ◌≡◌, ◌≤◌, ◌+◌, ◌*◌, ◌⊎◌, true, List, [], None}
+use Rattle.std.specs.Prelude.{ℕ, ◌≡◌, ◌≤◌, ◌+◌, ◌*◌, ◌⊎◌, true, List, [], Some, None}
 use Rattle.cell_num.specs.declared.net.NetNo.{NetNo}
 use Rattle.cell_num.specs.declared.finger.Fingers.{Fingers}
 use Rattle.row_model.specs.declared.column.Column.{Column}
@@ -17,7 +17,7 @@ use Rattle.trail_check.specs.Gates.{AreGates, HasFewWays, first_with_many, has_m
 use Rattle.trail_check.specs.Justified.{unproved}
 use Rattle.trail_check.specs.Leveled.{levels_for}
 use Rattle.trail_check.specs.Listed.{lemmas_listed}
-use Rattle.trail_search.specs.Filling.{filled_gates, opened_gates}
+use Rattle.trail_search.specs.Filling.{closed_gates, filled_gates, opened_gates}
 use Rattle.trail_search.specs.Reached.{AreReached}
 use Rattle.trail_search.specs.Search.{AreNew}
 use Rattle.trail_search.specs.Units.{listed_units, path_units, units_of}
@@ -126,8 +126,15 @@ EndsRefuting f left ended.Spent = left ≡ 0
 EndsRefuting f left (ended.Choices gate) = has_many_ways f gate ≡ true
 EndsRefuting f left ended.NoMemory = Unit {0}
 
--- no unit is left, and so much is proved; or the gate has too many ways
+-- For an order of the gates the gate is the first with too many ways of those that are not left open. So the choices of
+-- the order can't be listed.
+pub record IsClosedWithMany (f : Fingers) (gate : NetNo) : Type 0 where
+  pub order : List NetNo
+  pub is : IsOrder f order
+  pub first : first_with_many f (closed_gates f order) ≡ Some gate
+
+-- no unit is left, and so much is proved; or a gate that is not left open has too many ways
 abbrev pub StopsProving : Fingers → ℕ → ℕ → ProveStop → Type 0
 StopsProving f left left_after (stopped.Unfinished proof) = IsUnfinished f left left_after proof
-StopsProving f left left_after (stopped.Choices gate) = has_many_ways f gate ≡ true
+StopsProving f left left_after (stopped.Choices gate) = IsClosedWithMany f gate
 StopsProving f left left_after stopped.NoMemory = Unit {0}

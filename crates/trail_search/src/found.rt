@@ -19,7 +19,8 @@ pub enum TrailStop {
         trails: TrailCertificate,
         proved: u32,
     },
-    /// There are too many ways to pair the fingers of the gate.
+    /// There are too many ways to pair the fingers of the gate. It is the first such gate that is not left open. Or it
+    /// is the first that is left open, and each arrangement has more gaps than lemmas prove then.
     Choices {
         gate: NetNo,
     },

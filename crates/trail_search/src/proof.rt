@@ -17,7 +17,7 @@ pub(crate) struct Proof {
 pub(crate) enum ProveStop {
     /// The units are spent; what is proved so far.
     Unfinished(Proof),
-    /// The fingers of the gate pair in too many ways.
+    /// The fingers of the gate pair in too many ways. It is the first such gate that is not left open.
     Choices { gate: NetNo },
     NoMemory,
 }

@@ -43,7 +43,8 @@ fn first_opened(proof: &Proof) -> Option<NetNo>
 /// The first least arrangement of the fingers, and a certificate by trails that proves that none has fewer gaps; or
 /// what is proved when the budget is spent. A visit of a state takes one unit of it, where nothing kept says that the
 /// state fails. A visit along trails takes one more for each 64 choices of the next gate. So does a list of the choices
-/// of all gates that a state of the row has left.
+/// of all gates that a state of the row has left. A gate ends the search where it has too many ways and is not left
+/// open. So does the first gate that is left open, where each arrangement has more gaps than lemmas prove then.
 pub fn search_trails(alloc: Global, fingers: &Fingers, budget: u64) -> Result<TrailFound, TrailStop>
     requires { AreFingers fingers.now }
     ensures found { IfOk result (IsFound fingers.now budget) }

@@ -1,29 +1,32 @@
-use Rattle.std.proofs.Common.{◌+◌, List, None, not, ap, arith, refl, sym, ◌∙◌}
-use Rattle.std.specs.List.{filter}
-use Rattle.cell_num.specs.declared.net.NetNo.{NetNo}
+use Rattle.std.proofs.Common.{◌+◌, List, None, ap, arith, refl, sym, ◌∙◌}
 use Rattle.trail_state.specs.declared.level.Level.{Level}
 use Rattle.open_gates.specs.Open.{open_in}
 use Rattle.trail_check.specs.Justified.{ends_proved, gaps_proved}
 use Rattle.trail_check.specs.Leveled.{levels_for}
-use Rattle.trail_search.specs.Filling.{is_one_of, uneven_gates}
 use Rattle.trail_search.specs.Proof.{gate_units}
 use Rattle.trail_search.specs.Units.{path_units}
 use Rattle.trail_search.proofs.Ends.{most_is}
 use Rattle.trail_search.proofs.OpenLevels.{open_chained}
 use Rattle.trail_search.proofs.Proved.{none_kept}
-use Rattle.trail_search.proofs.Proving.{is_proof}
+use Rattle.trail_search.proofs.Proving.{closed_many, filled_are, is_proof}
 use Rattle.trail_search.proofs.Tied.{spent_is}
 use Rattle.trail_search.proofs.limits.prove.Goals as goal
 
 pub refute_limits-requires-clause-kept : goal.refute_limits-requires-clause-kept
 refute_limits-requires-clause-kept c = none_kept c.in_ok-levels.levels c.new-kept.result c.new-kept.ensures.lemmas c.new-kept.ensures.lines c.new-kept.ensures.indexed
 
+pub returns-in-Some-clause-stopped : goal.returns-in-Some-clause-stopped
+returns-in-Some-clause-stopped c =
+    closed_many c.args.fingers.now c.in_ok-order.order c.in_ok-fill.fill c.in_ok-crowded.crowded c.in-Some.gate c.in_ok-order.ensures
+    (filled_are c.args.fingers.now c.in_ok-order.order c.in_ok-opened.opened c.in_ok-fill.fill c.in_ok-opened.ensures c.in_ok-fill.ensures)
+    c.in_ok-crowded.ensures c.in-Some.is
+
 pub returns-then-whole-clause-proof : goal.returns-then-whole-clause-proof
 returns-then-whole-clause-proof c =
     is_proof c.args.fingers.now (record { trails = record { fill = c.in_ok-fill.fill; order = c.in_ok-order.order; lemmas = c.refute_limits.new.kept.lines; best = None }; opened = c.in_ok-opened.opened; gaps = c.gaps.result }) c.in_ok-levels.levels c.refute_limits.new.kept c.requires.fingers c.in_ok-order.ensures
     (sym c.in_ok-crowded.ensures ∙ c.in_default.is) c.in_ok-levels.ensures.is
     c.in_ok-whole.ensures.further.kept c.in_ok-whole.ensures.reached c.in_ok-opened.ensures
-    (c.in_ok-fill.ensures ∙ ap (λ (gs : List NetNo). filter (λ (g : NetNo). not (is_one_of gs g)) (uneven_gates c.args.fingers.now)) c.in_ok-opened.ensures)
+    (filled_are c.args.fingers.now c.in_ok-order.order c.in_ok-opened.opened c.in_ok-fill.fill c.in_ok-opened.ensures c.in_ok-fill.ensures)
     refl refl c.gaps.ensures
 
 pub refute_limits-requires-clause-chained : goal.refute_limits-requires-clause-chained
@@ -36,7 +39,19 @@ returns-then-whole-clause-most c = λ few.
 
 pub returns-then-whole-clause-units : goal.returns-then-whole-clause-units
 returns-then-whole-clause-units c =
-    spent_is c.args.fingers.now c.in_ok-levels.levels (record { fill = c.in_ok-fill.fill; order = c.in_ok-order.order; lemmas = c.refute_limits.new.kept.lines; best = None }) c.new-kept.result c.refute_limits.new.kept c.args.left.now c.refute_limits.new.left (path_units c.in_ok-levels.levels + 1) (gate_units c.args.fingers.now (record { fill = c.in_ok-fill.fill; order = c.in_ok-order.order; lemmas = c.refute_limits.new.kept.lines; best = None }) + 1)
+    spent_is c.args.fingers.now c.in_ok-levels.levels (record {
+      fill = c.in_ok-fill.fill;
+      order = c.in_ok-order.order;
+      lemmas = c.refute_limits.new.kept.lines;
+      best = None;
+    }) c.new-kept.result c.refute_limits.new.kept
+    c.args.left.now c.refute_limits.new.left (path_units c.in_ok-levels.levels + 1)
+    (gate_units c.args.fingers.now (record {
+      fill = c.in_ok-fill.fill;
+      order = c.in_ok-order.order;
+      lemmas = c.refute_limits.new.kept.lines;
+      best = None;
+    }) + 1)
     c.in_ok-levels.ensures.is c.in_ok-whole.ensures.further.kept refl c.new-kept.ensures.lemmas
     (ap (λ (ls : List Level). path_units ls + 1) c.in_ok-levels.ensures.is)
     c.in_ok-whole.ensures.path
@@ -47,9 +62,18 @@ returns-clause-stopped c = record {
   proved = is_proof c.args.fingers.now (record { trails = record { fill = c.in_ok-fill.fill; order = c.in_ok-order.order; lemmas = c.refute_limits.new.kept.lines; best = None }; opened = c.in_ok-opened.opened; gaps = c.gaps.result }) c.in_ok-levels.levels c.refute_limits.new.kept c.requires.fingers c.in_ok-order.ensures
       (sym c.in_ok-crowded.ensures ∙ c.in_default.is) c.in_ok-levels.ensures.is
       c.in_ok-whole.ensures.further.kept c.in_ok-whole.ensures.reached c.in_ok-opened.ensures
-      (c.in_ok-fill.ensures ∙ ap (λ (gs : List NetNo). filter (λ (g : NetNo). not (is_one_of gs g)) (uneven_gates c.args.fingers.now)) c.in_ok-opened.ensures)
+      (filled_are c.args.fingers.now c.in_ok-order.order c.in_ok-opened.opened c.in_ok-fill.fill c.in_ok-opened.ensures c.in_ok-fill.ensures)
       refl refl c.gaps.ensures;
-  units = spent_is c.args.fingers.now c.in_ok-levels.levels (record { fill = c.in_ok-fill.fill; order = c.in_ok-order.order; lemmas = c.refute_limits.new.kept.lines; best = None }) c.new-kept.result c.refute_limits.new.kept c.args.left.now c.refute_limits.new.left (path_units c.in_ok-levels.levels) (gate_units c.args.fingers.now (record { fill = c.in_ok-fill.fill; order = c.in_ok-order.order; lemmas = c.refute_limits.new.kept.lines; best = None }))
+  units = spent_is c.args.fingers.now c.in_ok-levels.levels (record
+      { fill = c.in_ok-fill.fill; order = c.in_ok-order.order; lemmas = c.refute_limits.new.kept.lines; best = None })
+      c.new-kept.result c.refute_limits.new.kept c.args.left.now c.refute_limits.new.left
+      (path_units c.in_ok-levels.levels) (gate_units c.args.fingers.now
+      (record {
+        fill = c.in_ok-fill.fill;
+        order = c.in_ok-order.order;
+        lemmas = c.refute_limits.new.kept.lines;
+        best = None;
+      }))
       c.in_ok-levels.ensures.is c.in_ok-whole.ensures.further.kept refl c.new-kept.ensures.lemmas
       (ap path_units c.in_ok-levels.ensures.is)
       (c.in_ok-whole.ensures.spent_path c.if-whole.false);

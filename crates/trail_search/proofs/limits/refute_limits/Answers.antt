@@ -19,8 +19,17 @@ loop-limit-preserved c =
     let above : c.loop-limit.limit < gaps_proved (ends_proved c.visit.new.kept.lemmas) = refutes c.visit.new.kept.lemmas c.new-start.result c.loop-limit.limit c.most_ends.result c.new-start.ensures c.most_ends.ensures (c.in-Ok-false.ensures.failed c.in-Ok-false.field-0-test) in
     let each : AreTied c.args.levels.now c.loop-limit.kept c.visit.new.kept c.loop-limit.left c.visit.new.left 0 = c.in-Ok-false.ensures.each c.in-Ok-false.field-0-test in
     let within : AreReached c.args.levels.now c.loop-limit.limit c.visit.new.kept.lemmas = limit_within c.args.levels.now c.loop-limit.kept c.visit.new.kept c.new-start.result c.loop-limit.limit c.most_ends.result c.new-start.ensures c.most_ends.ensures c.in-Ok-false.ensures.within c.loop-limit.invariant.5 in
-    let next : All (IsWithin c.args.levels.now (2 * (c.loop-limit.limit + 1) + 1)) c.visit.new.kept.lemmas = within in
-    (further_then c.args.levels.now c.args.kept.now c.loop-limit.kept c.visit.new.kept c.loop-limit.invariant.0 c.in-Ok-false.ensures.further, omega (arith, c.in-Ok-false.ensures.left, c.loop-limit.invariant.1), omega (arith, c.loop-limit.invariant.2, each.few, each.many), omega (arith, above), fewer_more (2 * (c.loop-limit.limit + 1)) (c.most_ends.result + 1) (2 * (c.loop-limit.limit + 1 + 1)) c.loop-limit.kept c.visit.new.kept (omega arith) (omega (arith, c.most_ends.ensures)) c.loop-limit.invariant.4 c.in-Ok-false.ensures.others, next)
+    let next : All (IsWithin c.args.levels.now (2 * (c.loop-limit.limit + 1) + 1)) c.visit.new.kept.lemmas = within in (
+      further_then c.args.levels.now c.args.kept.now c.loop-limit.kept c.visit.new.kept c.loop-limit.invariant.0
+          c.in-Ok-false.ensures.further,
+      omega (arith, c.in-Ok-false.ensures.left, c.loop-limit.invariant.1),
+      omega (arith, c.loop-limit.invariant.2, each.few, each.many),
+      omega (arith, above),
+      fewer_more (2 * (c.loop-limit.limit + 1)) (c.most_ends.result + 1) (2 * (c.loop-limit.limit + 1 + 1))
+          c.loop-limit.kept c.visit.new.kept (omega arith) (omega (arith, c.most_ends.ensures)) c.loop-limit.invariant.4
+          c.in-Ok-false.ensures.others,
+      next,
+    )
 
 pub loop-limit-init : goal.loop-limit-init
 loop-limit-init c = (search rules, search rules, search rules, search rules, search rules, none_within c.args.levels.now 1 c.args.kept.now.lemmas c.requires.none)

@@ -38,7 +38,11 @@ returns-in-Err-Spent-clause-attempt_stopped c =
     (c.in_ok-levels.ensures.is ∙ ap (levels_of c.args.fingers.now) c.as_slice-2.ensures)
     (sym (c.in_ok-crowded.ensures ∙ ap (first_with_many c.args.fingers.now) c.as_slice.ensures) ∙ c.in_default.is)
     (omega (arith, c.listed_units.ensures, c.take-2.ensures.taken c.if-not-take-2.false))
-    c.new-kept.ensures.lemmas (c.in-Err-Spent.ensures.spent_kept c.in-Err-Spent.field-0-is).kept (reached_once c.in_ok-levels.levels c.new-kept.result c.visit-2.new.kept c.new.result c.args.limit c.most_ends.result c.new.ensures c.most_ends.ensures c.new-kept.ensures.lemmas (c.in-Err-Spent.ensures.spent_within c.in-Err-Spent.field-0-is)) (omega arith) (c.in-Err-Spent.ensures.spent_path c.in-Err-Spent.field-0-is)
+    c.new-kept.ensures.lemmas (c.in-Err-Spent.ensures.spent_kept c.in-Err-Spent.field-0-is).kept
+    (reached_once c.in_ok-levels.levels c.new-kept.result c.visit-2.new.kept c.new.result c.args.limit
+    c.most_ends.result c.new.ensures c.most_ends.ensures c.new-kept.ensures.lemmas
+    (c.in-Err-Spent.ensures.spent_within c.in-Err-Spent.field-0-is)) (omega arith)
+    (c.in-Err-Spent.ensures.spent_path c.in-Err-Spent.field-0-is)
 
 pub returns-then-not-take-clause-attempt_stopped : goal.returns-then-not-take-clause-attempt_stopped
 returns-then-not-take-clause-attempt_stopped c =
@@ -50,4 +54,11 @@ returns-in-Some-clause-attempt_stopped c =
 
 pub returns-then-not-take-2-clause-attempt_stopped : goal.returns-then-not-take-2-clause-attempt_stopped
 returns-then-not-take-2-clause-attempt_stopped c =
-    listed_alone c.args.fingers.now c.in_ok-order.order c.in_ok-levels.levels c.args.limit c.args.left.now c.take-2.new.left c.in_ok-order.ensures (c.in_ok-levels.ensures.is ∙ ap (levels_of c.args.fingers.now) c.as_slice-2.ensures) (sym (c.in_ok-crowded.ensures ∙ ap (first_with_many c.args.fingers.now) c.as_slice.ensures) ∙ c.in_default.is) (omega (arith, c.listed_units.ensures, c.take-2.ensures.few c.if-not-take-2.true))
+    listed_alone c.args.fingers.now c.in_ok-order.order c.in_ok-levels.levels c.args.limit c.args.left.now
+    c.take-2.new.left c.in_ok-order.ensures (c.in_ok-levels.ensures.is ∙ ap (levels_of c.args.fingers.now)
+    c.as_slice-2.ensures) (sym (c.in_ok-crowded.ensures ∙ ap (first_with_many c.args.fingers.now)
+    c.as_slice.ensures) ∙ c.in_default.is) (omega (
+      arith,
+      c.listed_units.ensures,
+      c.take-2.ensures.few c.if-not-take-2.true,
+    ))

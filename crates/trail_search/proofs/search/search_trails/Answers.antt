@@ -4,14 +4,14 @@ use Rattle.row_state.specs.Completion.{Need}
 use Rattle.row_state.specs.Start.{columns_left, start_of}
 use Rattle.row_state.proofs.Unfold.{columns_same}
 use Rattle.trail_log.specs.declared.trails.TrailCertificate.{TrailCertificate}
-use Rattle.trail_search.specs.Proof.{IsUnfinished}
+use Rattle.trail_search.specs.Proof.{IsClosedWithMany, IsUnfinished}
 use Rattle.trail_search.specs.declared.found.TrailStop.TheVariants as stopped
 use Rattle.trail_search.specs.Ended.{IsTrailFound, Stops, WentForRows}
 use Rattle.trail_search.specs.Searched.{AreSearched}
 use Rattle.trail_search.specs.First.{IsFirstRow}
-use Rattle.trail_search.proofs.Certified.{few_gaps, fewest_proved, found_is, row_found, spent_is}
+use Rattle.trail_search.proofs.Certified.{few_gaps, fewest_proved, found_is, opened_in_vain, row_found, spent_is}
 use Rattle.trail_check.specs.Leveled.{open_of}
-use Rattle.trail_search.proofs.Proving.{none_opened, opened_crowded}
+use Rattle.trail_search.proofs.Proving.{none_opened}
 use Rattle.trail_search.proofs.Spent.{searched_less}
 use Rattle.trail_search.proofs.search.search_trails.Goals as goal
 
@@ -20,6 +20,11 @@ returns-in-Err-Unfinished-clause-stopped c =
     let told : IsUnfinished c.args.fingers.now c.args.budget c.prove.new.left c.in-Err-Unfinished.proof = rw c.in-Err-Unfinished.field-0-is at c.in-Err-Unfinished.ensures.stopped in
     let is : c.unfinished.result ≡ stopped.Unfinished c.in-Err-Unfinished.proof.trails c.in-Err-Unfinished.proof.gaps = rw c.in-Err-Unfinished.field-0-is at c.unfinished.ensures in
     subst (Stops c.args.fingers.now c.args.budget) (sym is) (spent_is c.in_ok-kinds.kinds c.args.fingers.now c.args.budget c.in-Err-Unfinished.proof c.in_ok-kinds.ensures.kinds c.in_ok-kinds.ensures.sound told.proved (omega (arith, told.units.few)) (inl (omega (arith, told.none, told.units.many))))
+
+pub returns-in-Err-Choices-clause-stopped : goal.returns-in-Err-Choices-clause-stopped
+returns-in-Err-Choices-clause-stopped c =
+    let told : IsClosedWithMany c.args.fingers.now c.in-Err-Choices.gate = rw c.in-Err-Choices.field-0-is at c.in-Err-Choices.ensures.stopped in
+    rw c.in-Err-Choices.field-0-is (inl told)
 
 pub first_row-requires : goal.first_row-requires
 first_row-requires c = record { few = few_gaps c.in_ok-kinds.kinds c.args.fingers.now c.in-Ok.proof.gaps c.in_ok-kinds.ensures.kinds c.in_ok-kinds.ensures.sound c.in-Ok.ensures.proof.least }
@@ -30,7 +35,9 @@ returns-in-Ok-Some-clause-found c =
     subst (λ (z : TrailCertificate). IsTrailFound c.args.fingers.now c.args.budget c.in-Ok-Some.first.row z) (sym c.with_row.ensures) (found_is c.in_ok-kinds.kinds c.args.fingers.now c.args.budget c.in-Ok.proof c.in-Ok-Some.first c.in_ok-kinds.ensures.kinds c.in_ok-kinds.ensures.sound c.in-Ok.ensures.proof first (omega (arith, c.in-Ok.ensures.units.few)))
 
 pub returns-in-Some-clause-stopped : goal.returns-in-Some-clause-stopped
-returns-in-Some-clause-stopped c = opened_crowded c.args.fingers.now c.in-Ok.proof c.in-Some.gate c.in-Ok.ensures.proof (sym c.first_opened.ensures ∙ c.in-Some.is)
+returns-in-Some-clause-stopped c =
+    let need : Need c.in_ok-kinds.kinds (start_of c.in_ok-kinds.kinds) (c.in-Ok.proof.gaps + 1) = rw c.in-Ok-None.field-0-is at c.in-Ok-None.ensures.none in
+    inr (opened_in_vain c.in_ok-kinds.kinds c.args.fingers.now c.in-Ok.proof c.in-Some.gate c.requires c.in_ok-kinds.ensures.kinds c.in_ok-kinds.ensures.sound c.in-Ok.ensures.proof c.in-Ok.ensures.most (sym c.first_opened.ensures ∙ c.in-Some.is) need)
 
 pub unreachable-requires : goal.unreachable-requires
 unreachable-requires c =

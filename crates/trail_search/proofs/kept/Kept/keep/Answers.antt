@@ -12,7 +12,15 @@ use Rattle.trail_search.proofs.kept.Kept.keep.Goals as goal
 pub returns-clause-further : goal.returns-clause-further
 returns-clause-further c =
     let it : IsListing c.args.levels.now c.args.done c.args.state.now c.args.bound c.in_ok-line.line c.in_ok-lemma.lemma = listing c.args.levels.now c.as_slice-2.result.now c.args.done c.args.state.now c.as_slice.result.now c.args.bound c.in_ok-line.line c.in_ok-lemma.lemma c.requires.chained c.requires.state c.in_ok-line.ensures c.as_slice.ensures c.as_slice-2.ensures c.in_ok-lemma.ensures in
-    further_kept c.args.levels.now c.args.self.now (record { lemmas = c.push-2.new.self; index = c.add.new.self; lines = c.push.new.self }) c.in_ok-line.line c.in_ok-lemma.lemma c.args.done c.args.state.now c.args.bound c.requires.done c.requires.some c.requires.few c.requires.kept c.requires.state it c.requires.justified c.requires.new c.in_ok-push.ensures.ok c.in_ok-push-2.ensures.ok (subst (λ (ls : List TrailLemma). IsIndexOf (ls ++ c.in_ok-lemma.lemma ∷ []) c.add.new.self) c.as_slice-3.ensures c.in_ok-add.ensures)
+    further_kept c.args.levels.now c.args.self.now (record {
+      lemmas = c.push-2.new.self;
+      index = c.add.new.self;
+      lines = c.push.new.self;
+    }) c.in_ok-line.line c.in_ok-lemma.lemma c.args.done c.args.state.now c.args.bound
+    c.requires.done c.requires.some c.requires.few c.requires.kept c.requires.state it c.requires.justified
+    c.requires.new c.in_ok-push.ensures.ok c.in_ok-push-2.ensures.ok
+    (subst (λ (ls : List TrailLemma). IsIndexOf (ls ++ c.in_ok-lemma.lemma ∷ []) c.add.new.self)
+    c.as_slice-3.ensures c.in_ok-add.ensures)
 
 pub returns-clause-known : goal.returns-clause-known
 returns-clause-known c =
