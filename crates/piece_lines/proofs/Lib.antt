@@ -1,15 +1,15 @@
-mod Again
-mod Begins
-mod Fewest
-mod Goes
-mod Kept
-mod Listed
-mod OnLines
-mod OnPaths
-mod Parts
-mod Runs
-mod Steady
-mod Straight
-mod Swept
-mod SweptAt
-mod TrackAt
+pub mod Again
+pub mod Begins
+pub mod Fewest
+pub mod Goes
+pub mod Kept
+pub mod Listed
+pub mod OnLines
+pub mod OnPaths
+pub mod Parts
+pub mod Runs
+pub mod Steady
+pub mod Straight
+pub mod Swept
+pub mod SweptAt
+pub mod TrackAt

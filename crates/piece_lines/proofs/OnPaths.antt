@@ -1,6 +1,6 @@
 -- Legal routings of a row by pieces and tracks along its path of states.
-use Rattle.std.proofs.Common.{ℕ, ◌≡◌, ◌<◌, ◌≤◌, ◌⊎◌, ◌&&◌, ◌||◌, not, Bool, true, false, List, [], ◌∷◌, map, length, inl, inr, refl, sym, subst, arith, ◌∙◌}
-use Rattle.std.proofs.lemmas.Bool.{cases_lt, le-ltb}
+use Rattle.std.proofs.Common.{ℕ, ◌≡◌, ◌<◌, ◌≤◌, ◌⊎◌, ◌&&◌, ◌||◌, not, Bool, true, false, List, [], ◌∷◌, map, length, inl, inr, sym, subst, arith, ◌∙◌}
+use Rattle.std.proofs.lemmas.Bool.{cases_lt}
 use Rattle.cell_num.specs.declared.net.NetNo.{NetNo}
 use Rattle.cell_num.specs.declared.net.Pins.{Pins}
 use Rattle.cell_num.specs.Pins.{is_rail}
@@ -26,10 +26,10 @@ use Rattle.track_ways.specs.Rows.{lines_of_row, node_line}
 use Rattle.track_ways.specs.States.{is_behind, is_still_ahead, is_open_at}
 use Rattle.track_ways.specs.Paths.{lines_to, Leads}
 use Rattle.track_ways.proofs.Behind.{ahead_of_state}
-use Rattle.track_ways.proofs.LineParts.{same_tests}
+use Rattle.track_ways.proofs.LineParts.{or_none}
 use Rattle.track_ways.proofs.Path.{completes, StepsOf, steps_of}
 use Rattle.track_ways.proofs.Placed.{lines_placed}
-use Rattle.track_ways.proofs.Whole.{start_fits, still_ahead}
+use Rattle.track_ways.proofs.Whole.{start_behind, start_fits, still_ahead}
 use Rattle.piece_lines.specs.Lines.{PieceSweeps, PiecePasses}
 use Rattle.piece_lines.specs.Paths.{PieceRuns}
 use Rattle.piece_lines.specs.Within.{routing_on}
@@ -39,10 +39,6 @@ use Rattle.piece_lines.proofs.Listed.{Within, pieces_of_sweeps}
 use Rattle.piece_lines.proofs.Runs.{runs, sweeps_of}
 use Rattle.piece_lines.proofs.Swept.{legal_sweeps}
 
--- no net has a place before the first line
-none_before : (k : Kinds) → is_ahead [] ≡ is_behind k (start_of k)
-none_before k = same_tests (is_ahead []) (is_behind k (start_of k)) (λ net. sym (le-ltb _ _ (omega arith)))
-
 abbrev pub row_of : Kinds → List Step → List Column
 row_of k steps = map (column_of k) steps
 
@@ -50,11 +46,11 @@ lines_are : (k : Kinds) (steps : List Step) → GatesAreNets k → Leads k (star
 lines_are k steps nets leads few = let whole : Completes k (start_of k) (row_of k steps) = completes k (start_of k) steps nets leads in lines_placed (row_of k steps) whole.columns few
 
 -- to a path from the start, and back
-to_path : (pins : Pins) (k : Kinds) (steps : List Step) (limit : ℕ) (track : NetNo → ℕ) → GatesAreNets k → Leads k (start_of k) steps → PieceSweeps pins limit (is_ahead []) track (lines_of_row (row_of k steps)) → PieceRuns pins limit k (start_of k) track steps
-to_path pins k steps limit track nets leads s = runs pins limit k (start_of k) track steps nets leads (start_fits k) (subst (λ (b : NetNo → Bool). PieceSweeps pins limit b track (lines_of_row (row_of k steps))) (none_before k) s)
+pub to_path : (pins : Pins) (k : Kinds) (steps : List Step) (limit : ℕ) (track : NetNo → ℕ) → GatesAreNets k → Leads k (start_of k) steps → PieceSweeps pins limit (is_ahead []) track (lines_of_row (row_of k steps)) → PieceRuns pins limit k (start_of k) track steps
+to_path pins k steps limit track nets leads s = runs pins limit k (start_of k) track steps nets leads (start_fits k) (subst (λ (b : NetNo → Bool). PieceSweeps pins limit b track (lines_of_row (row_of k steps))) (start_behind k) s)
 
 pub from_path : (pins : Pins) (k : Kinds) (steps : List Step) (limit : ℕ) (track : NetNo → ℕ) → GatesAreNets k → Leads k (start_of k) steps → PieceRuns pins limit k (start_of k) track steps → PieceSweeps pins limit (is_ahead []) track (lines_of_row (row_of k steps))
-from_path pins k steps limit track nets leads r = subst (λ (b : NetNo → Bool). PieceSweeps pins limit b track (lines_of_row (row_of k steps))) (sym (none_before k)) (sweeps_of pins limit k (start_of k) track steps nets leads (start_fits k) r)
+from_path pins k steps limit track nets leads r = subst (λ (b : NetNo → Bool). PieceSweeps pins limit b track (lines_of_row (row_of k steps))) (sym (start_behind k)) (sweeps_of pins limit k (start_of k) track steps nets leads (start_fits k) r)
 
 -- a legal routing of a row gives tracks along its path
 pub path_of : (pins : Pins) (k : Kinds) (steps : List Step) (r : PieceRouting) (limit : ℕ) (track : NetNo → ℕ) → GatesAreNets k → Leads k (start_of k) steps → length (row_of k steps) ≤ 32 → ArePiecesLegal (placement_of (row_of k steps)) pins r → r.tracks ≤ limit → PieceRuns pins limit k (start_of k) track steps
@@ -82,7 +78,7 @@ legal_path pins k steps limit track nets leads few pinned r none =
     let w : Within (placement_of (row_of k steps)) pins limit = pieces_of_sweeps (placement_of (row_of k steps)) pins (lines_of_row (row_of k steps)) h pinned limit track (from_path pins k steps limit track nets leads r) in
     (w.list, legal (placement_of (row_of k steps)) pins (lines_of_row (row_of k steps)) h limit w.list w.are (λ fewer other less s. none other fewer less (to_path pins k steps fewer other nets leads s)))
 
-passes_again : (pins : Pins) (limit : ℕ) (before : NetNo → Bool) (track other : NetNo → ℕ) (xs : List Line) (after : NetNo → Bool) (last : NetNo → ℕ) → Agrees pins before (λ net. is_ahead xs net || after net) other track → PiecePasses pins limit before track xs after last → PiecePasses pins limit before other xs after last
+pub passes_again : (pins : Pins) (limit : ℕ) (before : NetNo → Bool) (track other : NetNo → ℕ) (xs : List Line) (after : NetNo → Bool) (last : NetNo → ℕ) → Agrees pins before (λ net. is_ahead xs net || after net) other track → PiecePasses pins limit before track xs after last → PiecePasses pins limit before other xs after last
 passes_again pins limit before track other [] after last a p = λ net o. p net o ∙ a net o
 passes_again pins limit before track other (line ∷ xs) after last a (out, fits, more) = (out, fits_again pins limit before line (λ net. is_ahead xs net || after net) track other out (λ net o. a net (regroup (not (is_rail pins net)) (before net) (has_place line net) (is_ahead xs net) (after net) o)) fits, more)
   where
@@ -96,10 +92,6 @@ again pins limit k s track other [] nets leads same (last, passes) = (
   passes_again pins limit (is_behind k s) track other (node_line s.p_end s.n_end ∷ []) (λ net. false) last
       (λ net o. same net (subst (λ (b : Bool). (not (is_rail pins net) && (is_behind k s net && b)) ≡ true) (or_none (is_ahead (node_line s.p_end s.n_end ∷ []) net) ∙ ahead_of_state k [] s net leads) o)) passes,
 )
-  where
-    or_none : (b : Bool) → (b || false) ≡ b
-    or_none true = refl
-    or_none false = refl
 again pins limit k s track other (step ∷ steps) nets leads same (next, goes, more) =
     let after : Completes k (state_after k s step) (row_of k steps) = completes k (state_after k s step) steps nets leads.1 in
     let whole : Completes k s (column_of k step ∷ row_of k steps) = unfold_from k s step (row_of k steps) nets leads.0 after in (

@@ -1,29 +1,12 @@
 -- Tracks through lines, parted between two of them.
-use Rattle.std.proofs.Common.{ℕ, ◌≡◌, ◌||◌, Bool, true, false, List, [], ◌∷◌, ◌++◌, refl, sym, subst}
+use Rattle.std.proofs.Common.{ℕ, Bool, List, [], ◌∷◌, ◌++◌, refl, sym, subst}
 use Rattle.cell_num.specs.declared.net.NetNo.{NetNo}
 use Rattle.cell_num.specs.declared.net.Pins.{Pins}
 use Rattle.track_ways.specs.declared.line.Line.{Line}
-use Rattle.track_ways.specs.Lines.{has_place, is_ahead, with_line}
-use Rattle.track_ways.proofs.LineParts.{same_tests, ahead_append, with_lines}
+use Rattle.track_ways.specs.Lines.{is_ahead, with_line}
+use Rattle.track_ways.proofs.LineParts.{with_lines, no_lines, one_more, ahead_both}
 use Rattle.piece_lines.specs.Lines.{PieceLineFits, PieceSweeps, PiecePasses}
 use Rattle.piece_lines.proofs.Again.{sweeps_again}
-
-or_none : (b : Bool) → (b || false) ≡ b
-or_none true = refl
-or_none false = refl
-
-or_assoc : (a b c : Bool) → (a || (b || c)) ≡ ((a || b) || c)
-or_assoc true b c = refl
-or_assoc false b c = refl
-
-no_lines : (before : NetNo → Bool) → with_lines before [] ≡ before
-no_lines before = same_tests (with_lines before []) before (λ net. or_none (before net))
-
-one_more : (before : NetNo → Bool) (x : Line) (xs : List Line) → with_lines before (x ∷ xs) ≡ with_lines (with_line before x) xs
-one_more before x xs = same_tests (with_lines before (x ∷ xs)) (with_lines (with_line before x) xs) (λ net. or_assoc (before net) (has_place x net) (is_ahead xs net))
-
-ahead_both : (xs ys : List Line) → is_ahead (xs ++ ys) ≡ (λ net. is_ahead xs net || is_ahead ys net)
-ahead_both xs ys = same_tests (is_ahead (xs ++ ys)) (λ net. is_ahead xs net || is_ahead ys net) (λ net. ahead_append xs ys net)
 
 -- tracks between the two parts
 pub record Parted (pins : Pins) (limit : ℕ) (before : NetNo → Bool) (track : NetNo → ℕ) (xs ys : List Line) : Type 0 where

@@ -1,5 +1,5 @@
 -- Tracks through the lines from a state on are tracks along a path of states.
-use Rattle.std.proofs.Common.{ℕ, ◌≡◌, Bool, List, [], ◌∷◌, ◌++◌, map, refl, sym, ap, subst}
+use Rattle.std.proofs.Common.{ℕ, Bool, List, [], ◌∷◌, map, sym, subst}
 use Rattle.cell_num.specs.declared.net.NetNo.{NetNo}
 use Rattle.cell_num.specs.declared.net.Pins.{Pins}
 use Rattle.row_model.specs.declared.column.Column.{Column}
@@ -10,25 +10,16 @@ use Rattle.row_state.specs.Completion.{Completes}
 use Rattle.row_state.specs.Start.{GatesAreNets}
 use Rattle.row_state.specs.Steps.{column_of, state_after}
 use Rattle.row_state.proofs.Unfold.{unfold_from}
-use Rattle.track_ways.specs.declared.line.Line.{Line}
 use Rattle.track_ways.specs.Lines.{is_ahead}
-use Rattle.track_ways.specs.Rows.{node_line, gate_line, lines_between, lines_behind}
+use Rattle.track_ways.specs.Rows.{node_line, lines_behind}
 use Rattle.track_ways.specs.States.{is_behind, is_still_ahead}
 use Rattle.track_ways.specs.Paths.{lines_to, Leads, EndsFit}
 use Rattle.track_ways.proofs.Behind.{ahead_of_state}
 use Rattle.track_ways.proofs.LineParts.{same_tests, with_lines}
-use Rattle.track_ways.proofs.Path.{completes, ends_after, behind_after}
+use Rattle.track_ways.proofs.Path.{completes, ends_after, behind_after, parted}
 use Rattle.piece_lines.specs.Lines.{PieceSweeps, PiecePasses}
 use Rattle.piece_lines.specs.Paths.{PieceRuns}
 use Rattle.piece_lines.proofs.Parts.{Parted, part, join}
-
-assoc : (xs : List Line) (x : Line) (ys : List Line) → xs ++ x ∷ ys ≡ (xs ++ x ∷ []) ++ ys
-assoc [] x ys = refl
-assoc (y ∷ xs) x ys = ap (λ ls. y ∷ ls) (assoc xs x ys)
-
--- the lines from a state on, parted after its next column
-parted : (k : Kinds) (s : State) (step : Step) (cs : List Column) → lines_behind s.p_end s.n_end (column_of k step ∷ cs) ≡ lines_to s (column_of k step) ++ lines_behind (state_after k s step).p_end (state_after k s step).n_end cs
-parted k s step cs = assoc (lines_between s.p_end s.n_end (column_of k step)) (gate_line (column_of k step)) (lines_behind (state_after k s step).p_end (state_after k s step).n_end cs)
 
 pub runs : (pins : Pins) (limit : ℕ) (k : Kinds) (s : State) (track : NetNo → ℕ) (steps : List Step) → GatesAreNets k → Leads k s steps → EndsFit k s → PieceSweeps pins limit (is_behind k s) track (lines_behind s.p_end s.n_end (map (column_of k) steps)) → PieceRuns pins limit k s track steps
 runs pins limit k s track [] nets leads fit sweeps = let p : Parted pins limit (is_behind k s) track (node_line s.p_end s.n_end ∷ []) [] = part pins limit (is_behind k s) track (node_line s.p_end s.n_end ∷ []) [] sweeps in (p.last, p.passes)

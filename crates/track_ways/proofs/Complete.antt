@@ -46,13 +46,13 @@ abbrev fill_by : (NetNo → ℕ) → List NetNo → List NetTrack → List NetTr
 fill_by next [] tracks = tracks
 fill_by next (net ∷ nets) tracks = fill_by next nets (on_track net (next net) ∷ tracks)
 
-fill_there : (limit : ℕ) (next : NetNo → ℕ) (nets : List NetNo) (tracks : List NetTrack) → All (λ net. next net < limit) nets → Contains (fills limit nets tracks) (fill_by next nets tracks)
+pub fill_there : (limit : ℕ) (next : NetNo → ℕ) (nets : List NetNo) (tracks : List NetTrack) → All (λ net. next net < limit) nets → Contains (fills limit nets tracks) (fill_by next nets tracks)
 fill_there limit next [] tracks low = contains_here tracks []
 fill_there limit next (net ∷ nets) tracks low =
     contains_flat (λ j. fills limit nets (on_track net j ∷ tracks)) (range_with_len 0 limit) (next net) (fill_by next nets (on_track net (next net) ∷ tracks))
     (in_range limit (next net) (All-head (λ net. next net < limit) net nets low)) (fill_there limit next nets (on_track net (next net) ∷ tracks) (All-tail (λ net. next net < limit) net nets low))
 
-fill_all : (Q : NetTrack → Type 0) (next : NetNo → ℕ) (nets : List NetNo) (tracks : List NetTrack) → All (λ net. Q (on_track net (next net))) nets → All Q tracks → All Q (fill_by next nets tracks)
+pub fill_all : (Q : NetTrack → Type 0) (next : NetNo → ℕ) (nets : List NetNo) (tracks : List NetTrack) → All (λ net. Q (on_track net (next net))) nets → All Q tracks → All Q (fill_by next nets tracks)
 fill_all Q next [] tracks new all = all
 fill_all Q next (net ∷ nets) tracks new all = fill_all Q next nets (on_track net (next net) ∷ tracks) (All-tail (λ net. Q (on_track net (next net))) net nets new) (All-cons Q (on_track net (next net)) tracks (All-head (λ net. Q (on_track net (next net))) net nets new) all)
 

@@ -1,7 +1,7 @@
 -- No tracks go through a crowded line.
 use Rattle.std.proofs.Common.{ℕ, zero, suc, ◌≡◌, ◌+◌, ◌<◌, ◌≤◌, ◌==◌, ◌||◌, not, ltb, Bool, true, false, cond, List, [], ◌∷◌, map, inl, inr, refl, sym, ap, arith, Contains, count_by, ◌∙◌}
 use Rattle.std.specs.List.{range_with_len}
-use Rattle.std.proofs.lemmas.Bool.{and_from, and_parts, cases_eq, eq-eqb, eqb-true, le-ltb, lt-ltb, ne_eqb}
+use Rattle.std.proofs.lemmas.Bool.{and_from, and_parts, both_ways, cases_eq, eq-eqb, eqb-true, le-ltb, lt-ltb, ne_eqb}
 use Rattle.cell_num.specs.declared.net.NetNo.{NetNo}
 use Rattle.cell_num.specs.declared.net.Pins.{Pins}
 use Rattle.cell_num.proofs.In.{in_flat, Piece}
@@ -69,10 +69,7 @@ few_at pins limit nets track before line after fits = omega (arith, few, all)
 not_false : (b : Bool) → b ≡ false → not b ≡ true
 not_false b e = ap not e
 
-not_both : (b : Bool) → b ≡ true → b ≡ false → ⊥
-not_both b e f = cc
-
-line_uncrowded : (pins : Pins) (limit nets : ℕ) (before : NetNo → Bool) (track : NetNo → ℕ) (line : Line) (rest : List Line) (after : NetNo → Bool) → LineFits pins limit track before line (λ net. is_ahead rest net || after net) → none_crowded pins limit nets (with_line before line) rest after ≡ true → none_crowded pins limit nets before (line ∷ rest) after ≡ true
+pub line_uncrowded : (pins : Pins) (limit nets : ℕ) (before : NetNo → Bool) (track : NetNo → ℕ) (line : Line) (rest : List Line) (after : NetNo → Bool) → LineFits pins limit track before line (λ net. is_ahead rest net || after net) → none_crowded pins limit nets (with_line before line) rest after ≡ true → none_crowded pins limit nets before (line ∷ rest) after ≡ true
 line_uncrowded pins limit nets before track line rest after fits more =
     and_from (not (ltb limit (nets_at pins nets before line (λ net. is_ahead rest net || after net)))) (none_crowded pins limit nets (with_line before line) rest after)
     (not_false (ltb limit (nets_at pins nets before line (λ net. is_ahead rest net || after net))) (le-ltb limit (nets_at pins nets before line (λ net. is_ahead rest net || after net)) (few_at pins limit nets track before line (λ net. is_ahead rest net || after net) fits)))
@@ -87,12 +84,12 @@ passes_uncrowded pins limit nets before track (line ∷ rest) after last (next, 
 -- no tracks go through a crowded line to a next column
 pub crowded_step : (pins : Pins) (limit : ℕ) (k : Kinds) (s : State) (step : Step) (track next : NetNo → ℕ) → step_uncrowded pins limit k s step ≡ false → Goes pins limit k s track step next → ⊥
 crowded_step pins limit k s step track next crowded goes =
-    not_both (step_uncrowded pins limit k s step) (passes_uncrowded pins limit k.nets (is_behind k s) track (lines_to s (column_of k step)) (is_still_ahead k (state_after k s step)) next goes) crowded
+    both_ways (step_uncrowded pins limit k s step) crowded (passes_uncrowded pins limit k.nets (is_behind k s) track (lines_to s (column_of k step)) (is_still_ahead k (state_after k s step)) next goes)
 
 -- nor through a crowded last line
 pub crowded_end : (pins : Pins) (limit : ℕ) (k : Kinds) (s : State) (track : NetNo → ℕ) → end_uncrowded pins limit k s ≡ false → Ends pins limit k s track → ⊥
 crowded_end pins limit k s track crowded (last, passes) =
-    not_both (end_uncrowded pins limit k s) (passes_uncrowded pins limit k.nets (is_behind k s) track (node_line s.p_end s.n_end ∷ []) (λ net. false) last passes) crowded
+    both_ways (end_uncrowded pins limit k s) crowded (passes_uncrowded pins limit k.nets (is_behind k s) track (node_line s.p_end s.n_end ∷ []) (λ net. false) last passes)
 
 -- ---- the lists of tracks
 
@@ -111,12 +108,12 @@ listed_uncrowded pins limit nets before (line ∷ rest) after tracks way among p
 -- so none are listed through a crowded line to a next column
 pub none_through : (pins : Pins) (limit : ℕ) (k : Kinds) (s : State) (step : Step) (free : Bool) → AreSomeKinds k → IsState k s → free ≡ step_uncrowded pins limit k s step → free ≡ false → (tracks : List NetTrack) → goes_ways pins limit k s tracks step ≡ []
 none_through pins limit k s step free some state is crowded tracks = empty (goes_ways pins limit k s tracks step) (λ way there.
-    not_both (step_uncrowded pins limit k s step) (listed_uncrowded pins limit k.nets (is_behind k s) (lines_to s (column_of k step)) (is_still_ahead k (state_after k s step)) tracks way (behind_among k s some) (lines_among k s step some state) there) (sym is ∙ crowded))
+    both_ways (step_uncrowded pins limit k s step) (sym is ∙ crowded) (listed_uncrowded pins limit k.nets (is_behind k s) (lines_to s (column_of k step)) (is_still_ahead k (state_after k s step)) tracks way (behind_among k s some) (lines_among k s step some state) there))
 
 -- nor through a crowded last line
 pub none_at_end : (pins : Pins) (limit : ℕ) (k : Kinds) (s : State) (free : Bool) → AreSomeKinds k → IsState k s → free ≡ end_uncrowded pins limit k s → free ≡ false → (tracks : List NetTrack) → ends_ways pins limit k s tracks ≡ []
 none_at_end pins limit k s free some state is crowded tracks = empty (ends_ways pins limit k s tracks) (λ way there.
-    not_both (end_uncrowded pins limit k s) (listed_uncrowded pins limit k.nets (is_behind k s) (node_line s.p_end s.n_end ∷ []) (λ net. false) tracks way (behind_among k s some) (end_among k s state) there) (sym is ∙ crowded))
+    both_ways (end_uncrowded pins limit k s) (sym is ∙ crowded) (listed_uncrowded pins limit k.nets (is_behind k s) (node_line s.p_end s.n_end ∷ []) (λ net. false) tracks way (behind_among k s some) (end_among k s state) there))
 
 -- ---- what the code reads from tables
 

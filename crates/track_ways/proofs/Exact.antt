@@ -38,10 +38,10 @@ look_is (x ∷ xs) t one there = go (x.net.0 == t.net.0) refl (contains_cons x x
     go false e (inl same) more = absurd (let yes' : (x.net.0 == t.net.0) ≡ true = eq-eqb x.net.0 t.net.0 (ap (λ (z : NetTrack). z.net.0) same) in cc)
     go false e (inr later) more = more later
 
-listed : (tracks : List NetTrack) (net : NetNo) → is_listed tracks net ≡ true → Listed tracks net
+pub listed : (tracks : List NetTrack) (net : NetNo) → is_listed tracks net ≡ true → Listed tracks net
 listed tracks net e = let f : Some' (λ (t : NetTrack). (t.net.0 == net.0) ≡ true) tracks = test_finds (λ (t : NetTrack). t.net.0 == net.0) tracks e in record { it = f.it; there = f.there; is = net_same f.it.net net (eqb-true f.it.net.0 net.0 f.holds) }
 
-is_there : (tracks : List NetTrack) (t : NetTrack) → Contains tracks t → is_listed tracks t.net ≡ true
+pub is_there : (tracks : List NetTrack) (t : NetTrack) → Contains tracks t → is_listed tracks t.net ≡ true
 is_there tracks t there = test_there (λ (u : NetTrack). u.net.0 == t.net.0) tracks t there (eq-eqb t.net.0 t.net.0 refl)
 
 -- what was listed stays, and each net is filled in
@@ -51,7 +51,7 @@ fills_keep limit (net ∷ nets) tracks way t there at =
     let p : Piece (λ j. fills limit nets (on_track net j ∷ tracks)) (range_with_len 0 limit) way = in_flat (λ j. fills limit nets (on_track net j ∷ tracks)) (range_with_len 0 limit) way there in
     fills_keep limit nets (on_track net p.of ∷ tracks) way t p.inside (contains_there (on_track net p.of) tracks t at)
 
-fills_new : (limit : ℕ) (nets : List NetNo) (tracks way : List NetTrack) (net : NetNo) → Contains (fills limit nets tracks) way → Contains nets net → Listed way net
+pub fills_new : (limit : ℕ) (nets : List NetNo) (tracks way : List NetTrack) (net : NetNo) → Contains (fills limit nets tracks) way → Contains nets net → Listed way net
 fills_new limit [] tracks way net there at = absurd (contains_none net at)
 fills_new limit (x ∷ nets) tracks way net there at = go (in_flat (λ j. fills limit nets (on_track x j ∷ tracks)) (range_with_len 0 limit) way there) (contains_cons x nets net at) (λ j inside later. fills_new limit nets (on_track x j ∷ tracks) way net inside later)
   where
@@ -60,7 +60,7 @@ fills_new limit (x ∷ nets) tracks way net there at = go (in_flat (λ j. fills 
     go p (inr later) more = more p.of p.inside later
 
 -- a net that holds a line has a place before it or there
-held_place : (pins : Pins) (before : NetNo → Bool) (line : Line) (behind : NetNo → Bool) (net : NetNo) → is_held pins before line behind net ≡ true → (before net || has_place line net) ≡ true
+pub held_place : (pins : Pins) (before : NetNo → Bool) (line : Line) (behind : NetNo → Bool) (net : NetNo) → is_held pins before line behind net ≡ true → (before net || has_place line net) ≡ true
 held_place pins before line behind net h = go (not (is_rail pins net)) (before net) (has_place line net) (behind net) (before net || (behind net || (is_twice line net || ltb net.0 pins.pins))) h
   where
     go : (r b p h q : Bool) → (r && ((b && h) || (p && q))) ≡ true → (b || p) ≡ true

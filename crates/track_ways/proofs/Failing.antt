@@ -57,7 +57,7 @@ has_column (Some x) None one fs gs = omega arith
 has_column None (Some y) one fs gs = omega arith
 has_column (Some x) (Some y) one fs gs = omega arith
 
-has_fingers : (k : Kinds) (s : State) (c : Column) (cs : List Column) → Completes k s (c ∷ cs) → HasFingers k s
+pub has_fingers : (k : Kinds) (s : State) (c : Column) (cs : List Column) → Completes k s (c ∷ cs) → HasFingers k s
 has_fingers k s c cs h = omega (arith, has_column c.p c.n (All-head IsColumn c cs h.columns) (fingers_in P cs) (fingers_in N cs), length_permutation _ _ h.p, length_permutation _ _ h.n)
 
 -- no finger is left, and no tracks go through the last line
@@ -172,7 +172,7 @@ runs_wider pins few many k steps track nets leads le r =
     (sweeps_wider pins few many (is_behind k (start_of k)) track (lines_of_row (map (column_of k) steps)) le (sweeps_of pins few k (start_of k) track steps nets leads (start_fits k) r))
 
 -- no net is open before the first line, so any tracks are the same there
-start_open : (pins : Pins) (k : Kinds) (net : NetNo) → is_open_at pins k (start_of k) net ≡ true → ⊥
+pub start_open : (pins : Pins) (k : Kinds) (net : NetNo) → is_open_at pins k (start_of k) net ≡ true → ⊥
 start_open pins k net o = wrong (not (is_rail pins net)) (is_behind k (start_of k) net) (is_still_ahead k (start_of k) net) (le-ltb _ _ (omega arith)) o
   where
     wrong : (r b a : Bool) → b ≡ false → (r && (b && a)) ≡ true → ⊥

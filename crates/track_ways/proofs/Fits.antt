@@ -1,7 +1,7 @@
 -- A track that doesn't go with those at a line leads to no way there.
 use Rattle.std.proofs.Common.{ℕ, ◌≡◌, ◌+◌, ◌<◌, ◌++◌, ◌&&◌, ◌||◌, ◌==◌, ltb, not, Bool, true, false, cond, List, [], ◌∷◌, filter, refl, sym, ap, Contains, ◌∙◌, append-nil}
 use Rattle.std.specs.List.{list_all}
-use Rattle.std.proofs.lemmas.Bool.{and_from, and_parts, eq-eqb, lt-ltb}
+use Rattle.std.proofs.lemmas.Bool.{and_from, and_parts, both_ways, eq-eqb, lt-ltb}
 use Rattle.cell_num.specs.declared.net.NetNo.{NetNo}
 use Rattle.cell_num.specs.declared.net.Pins.{Pins}
 use Rattle.cell_num.proofs.Lists.{contains_here, contains_there}
@@ -19,13 +19,10 @@ use Rattle.track_ways.proofs.Steps.{empty}
 abbrev pub goes_with : Line → NetTrack → List NetTrack → Bool
 goes_with line t tracks = list_all (λ (u : NetTrack). are_apart line t u && are_apart line u t) tracks
 
-bools : (a b : Bool) → (a ≡ true → b ≡ true) → (b ≡ true → a ≡ true) → a ≡ b
+pub bools : (a b : Bool) → (a ≡ true → b ≡ true) → (b ≡ true → a ≡ true) → a ≡ b
 bools true b f g = sym (f refl)
 bools false true f g = g refl
 bools false false f g = refl
-
-not_both : (b : Bool) → b ≡ true → b ≡ false → ⊥
-not_both b e f = cc
 
 apart_itself : (line : Line) (t : NetTrack) → are_apart line t t ≡ true
 apart_itself line t = go (t.net.0 == t.net.0) (t.track == t.track) (not (t.track == t.track) && (not (is_net line.p t.net && is_net line.n t.net) || ltb t.track t.track)) (eq-eqb t.net.0 t.net.0 refl) (eq-eqb t.track t.track refl)
@@ -73,7 +70,7 @@ one_more_fits limit line t tracks low test = bools (line_test limit line (t ∷ 
 none_fit : (limit : ℕ) (line : Line) (nets : List NetNo) (tracks : List NetTrack) → line_test limit line tracks ≡ false → filter (line_test limit line) (fills limit nets tracks) ≡ []
 none_fit limit line nets tracks unfit = empty (filter (line_test limit line) (fills limit nets tracks)) (λ way at.
     let both : Contains (fills limit nets tracks) way × (line_test limit line way ≡ true) = kept (line_test limit line) (fills limit nets tracks) way at in
-    not_both (line_test limit line tracks) (fewer_fit limit line way tracks (λ t there. fills_keep limit nets tracks way t both.0 there) both.1) unfit)
+    both_ways (line_test limit line tracks) unfit (fewer_fit limit line way tracks (λ t there. fills_keep limit nets tracks way t both.0 there) both.1))
 
 -- so there are no ways from them
 pub unfit_ways : (pins : Pins) (limit : ℕ) (nets : List NetNo) (before : NetNo → Bool) (line : Line) (behind : NetNo → Bool) (tracks here : List NetTrack) (fit : Bool) (ways : List (List NetTrack)) → here ≡ tracks → fit ≡ line_test limit line here → fit ≡ false → ways ≡ [] → ways ≡ line_ways pins limit nets before line behind tracks

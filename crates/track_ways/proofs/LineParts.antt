@@ -9,7 +9,7 @@ use Rattle.track_ways.specs.Lines.{has_place, is_ahead, with_line, LineFits, Agr
 pub same_tests : (a b : NetNo → Bool) → ((net : NetNo) → a net ≡ b net) → a ≡ b
 same_tests a b h = λ i net. h net i
 
-or_none : (b : Bool) → (b || false) ≡ b
+pub or_none : (b : Bool) → (b || false) ≡ b
 or_none true = refl
 or_none false = refl
 
@@ -25,13 +25,13 @@ ahead_append (x ∷ xs) ys net = ap (λ b. has_place x net || b) (ahead_append x
 abbrev pub with_lines : (NetNo → Bool) → List Line → NetNo → Bool
 with_lines before lines net = before net || is_ahead lines net
 
-no_lines : (before : NetNo → Bool) → with_lines before [] ≡ before
+pub no_lines : (before : NetNo → Bool) → with_lines before [] ≡ before
 no_lines before = same_tests (with_lines before []) before (λ net. or_none (before net))
 
-one_more : (before : NetNo → Bool) (x : Line) (xs : List Line) → with_lines before (x ∷ xs) ≡ with_lines (with_line before x) xs
+pub one_more : (before : NetNo → Bool) (x : Line) (xs : List Line) → with_lines before (x ∷ xs) ≡ with_lines (with_line before x) xs
 one_more before x xs = same_tests (with_lines before (x ∷ xs)) (with_lines (with_line before x) xs) (λ net. or_assoc (before net) (has_place x net) (is_ahead xs net))
 
-ahead_both : (xs ys : List Line) → is_ahead (xs ++ ys) ≡ (λ net. is_ahead xs net || is_ahead ys net)
+pub ahead_both : (xs ys : List Line) → is_ahead (xs ++ ys) ≡ (λ net. is_ahead xs net || is_ahead ys net)
 ahead_both xs ys = same_tests (is_ahead (xs ++ ys)) (λ net. is_ahead xs net || is_ahead ys net) (λ net. ahead_append xs ys net)
 
 -- tracks between the two parts

@@ -1,5 +1,5 @@
 -- Tracks line by line behind a state are tracks along a path of states.
-use Rattle.std.proofs.Common.{ℕ, ◌≡◌, ◌+◌, ◌*◌, ◌≤◌, ◌++◌, ◌||◌, ltb, Bool, true, false, List, [], ◌∷◌, map, inl, inr, refl, sym, ap, subst, arith, ◌∙◌}
+use Rattle.std.proofs.Common.{ℕ, ◌≡◌, ◌+◌, ◌*◌, ◌≤◌, ◌++◌, ◌||◌, ltb, Bool, List, [], ◌∷◌, map, inl, inr, refl, sym, ap, subst, arith, ◌∙◌}
 use Rattle.std.proofs.lemmas.Bool.{cases_Bool, lt-ltb, or_right}
 use Rattle.std.proofs.lemmas.List.Elements.{All-head}
 use Rattle.cell_num.specs.declared.net.NetNo.{NetNo}
@@ -21,7 +21,7 @@ use Rattle.track_ways.specs.Paths.{lines_to, Runs, Leads, EndsFit}
 use Rattle.track_ways.proofs.Counts.{all_places}
 use Rattle.track_ways.proofs.Holding.{ahead_counts, none_ahead, places_append}
 use Rattle.track_ways.proofs.Behind.{of_row, placed_is, GateCounts, gate_counts, BetweenCounts, between_counts, rest_touched, ahead_of_state}
-use Rattle.track_ways.proofs.LineParts.{same_tests, with_lines, Parted, part, join}
+use Rattle.track_ways.proofs.LineParts.{same_tests, or_none, with_lines, Parted, part, join}
 
 abbrev columns : Kinds → List Step → List Column
 columns k steps = map (column_of k) steps
@@ -79,16 +79,12 @@ behind_after k s step rest net whole after fit =
     counts : StepCounts k s step net
     counts = step_counts k s step rest net whole after
 
-    or_none : (b : Bool) → (b || false) ≡ b
-    or_none true = refl
-    or_none false = refl
-
 assoc : (xs : List Line) (x : Line) (ys : List Line) → xs ++ x ∷ ys ≡ (xs ++ x ∷ []) ++ ys
 assoc [] x ys = refl
 assoc (y ∷ xs) x ys = ap (λ ls. y ∷ ls) (assoc xs x ys)
 
 -- the lines from a state on, parted behind its next column
-parted : (k : Kinds) (s : State) (step : Step) (cs : List Column) → lines_behind s.p_end s.n_end (column_of k step ∷ cs) ≡ lines_to s (column_of k step) ++ lines_behind (state_after k s step).p_end (state_after k s step).n_end cs
+pub parted : (k : Kinds) (s : State) (step : Step) (cs : List Column) → lines_behind s.p_end s.n_end (column_of k step ∷ cs) ≡ lines_to s (column_of k step) ++ lines_behind (state_after k s step).p_end (state_after k s step).n_end cs
 parted k s step cs = assoc (lines_between s.p_end s.n_end (column_of k step)) (gate_line (column_of k step)) (lines_behind (state_after k s step).p_end (state_after k s step).n_end cs)
 
 -- along the path

@@ -33,7 +33,7 @@ step_only pins limit k s step tracks way some state one there =
     let p : Passed pins limit (is_behind k s) (lines_to s (column_of k step)) (is_still_ahead k (state_after k s step)) tracks way = pass_exact pins limit (nets_below k.nets) (is_behind k s) (lines_to s (column_of k step)) (is_still_ahead k (state_after k s step)) tracks way one (behind_among k s some) (lines_among k s step some state) there in
     (p.track, p.last, p.from, p.passes, p.to)
 
-some_lines : (xs : List Line) (x : Line) → length (xs ++ x ∷ []) ≡ 0 → ⊥
+pub some_lines : (xs : List Line) (x : Line) → length (xs ++ x ∷ []) ≡ 0 → ⊥
 some_lines xs x e = omega (arith, e, length-append xs (x ∷ []))
 
 pub step_keys : (pins : Pins) (limit : ℕ) (k : Kinds) (s : State) (step : Step) (tracks way : List NetTrack) → AreSomeKinds k → IsState k s → IsSingle tracks → Contains (goes_ways pins limit k s tracks step) way → AreKeys pins (is_behind_step k s step) (is_still_ahead k (state_after k s step)) way

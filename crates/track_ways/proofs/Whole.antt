@@ -29,7 +29,7 @@ use Rattle.track_ways.proofs.Holding.{ahead_counts, none_ahead}
 use Rattle.track_ways.proofs.Least.{routing_sweep, least}
 use Rattle.track_ways.proofs.Placed.{lines_placed}
 use Rattle.track_ways.proofs.Behind.{ahead_of_state}
-use Rattle.track_ways.proofs.LineParts.{same_tests}
+use Rattle.track_ways.proofs.LineParts.{same_tests, or_none}
 use Rattle.track_ways.proofs.Path.{completes, StepsOf, steps_of, StepCounts, step_counts, runs, sweeps_of}
 
 -- on more tracks
@@ -40,8 +40,8 @@ pub sweeps_wider : (pins : Pins) (few many : ℕ) (before : NetNo → Bool) (tra
 sweeps_wider pins few many before track [] le s = s
 sweeps_wider pins few many before track (line ∷ rest) le (next, agrees, f, more) = (next, agrees, line_wider pins few many next before line (is_ahead rest) le f, sweeps_wider pins few many (with_line before line) next rest le more)
 
--- nothing is before the first line
-start_behind : (k : Kinds) → is_ahead [] ≡ is_behind k (start_of k)
+-- no net has a place before the first line
+pub start_behind : (k : Kinds) → is_ahead [] ≡ is_behind k (start_of k)
 start_behind k = same_tests (is_ahead []) (is_behind k (start_of k)) (λ net. sym (le-ltb _ _ (omega arith)))
 
 pub start_fits : (k : Kinds) → EndsFit k (start_of k)
@@ -112,10 +112,6 @@ again pins limit k s track other [] nets leads same (last, passes) = (
   passes_again pins limit (is_behind k s) track other (node_line s.p_end s.n_end ∷ []) (λ net. false) last
       (λ net o. same net (subst (λ (b : Bool). (not (is_rail pins net) && (is_behind k s net && b)) ≡ true) (or_none (is_ahead (node_line s.p_end s.n_end ∷ []) net) ∙ ahead_of_state k [] s net leads) o)) passes,
 )
-  where
-    or_none : (b : Bool) → (b || false) ≡ b
-    or_none true = refl
-    or_none false = refl
 again pins limit k s track other (step ∷ steps) nets leads same (next, goes, more) =
     let after : Completes k (state_after k s step) (map (column_of k) steps) = completes k (state_after k s step) steps nets leads.1 in
     let whole : Completes k s (column_of k step ∷ map (column_of k) steps) = unfold_from k s step (map (column_of k) steps) nets leads.0 after in (

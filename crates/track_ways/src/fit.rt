@@ -7,13 +7,16 @@ use crate::held::is_net;
 use crate::line::Line;
 use cell_num::NetNo;
 
-pub(crate) fn is_listed(tracks: &[NetTrack], net: NetNo) -> bool
+/// Whether one of the tracks is of the net.
+pub fn is_listed(tracks: &[NetTrack], net: NetNo) -> bool
     ensures { result ≡ is_listed tracks.now net }
 {
     tracks.iter().any(|t| t.net.0 == net.0)
 }
 
-fn are_apart(line: &Line, t: &NetTrack, u: &NetTrack) -> bool
+/// Whether two tracks go together at the line: one net has one track, two nets have two, and where the first net has
+/// the place in row P and the second the one in row N, the first track is above the second.
+pub fn are_apart(line: &Line, t: &NetTrack, u: &NetTrack) -> bool
     ensures { result ≡ are_apart line.now t.now u.now }
 {
     if t.net.0 == u.net.0 {

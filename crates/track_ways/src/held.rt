@@ -7,7 +7,8 @@ use crate::line::Line;
 use cell_num::{NetNo, Pins};
 use row_trails::NETS;
 
-pub(crate) fn is_net(place: &Option<NetNo>, net: NetNo) -> bool
+/// Whether the place is of the net.
+pub fn is_net(place: &Option<NetNo>, net: NetNo) -> bool
     ensures { result ≡ is_net place.now net }
 {
     match place {
@@ -50,7 +51,7 @@ fn is_later(lines: &[Line], behind: &[bool; NETS], net: NetNo) -> bool
 
 /// Whether the net is open before the lines, of which `before` and `behind` have the nets with a place before and
 /// after them.
-pub(crate) fn is_open(
+pub fn is_open(
     pins: &Pins,
     before: &[bool; NETS],
     lines: &[Line],
@@ -71,7 +72,7 @@ fn begins_or_ends(pins: &Pins, before: bool, line: &Line, behind: bool, net: Net
 }
 
 /// Whether a trunk of the net holds the line before the rest of the lines.
-pub(crate) fn is_held(
+pub fn is_held(
     pins: &Pins,
     before: &[bool; NETS],
     line: &Line,

@@ -19,13 +19,17 @@ mod table;
 pub mod track;
 
 pub use crowds::{end_uncrowded, step_uncrowded};
-pub use held::is_marked;
+pub use fit::{are_apart, is_listed};
+pub use held::{is_held, is_marked, is_net, is_open};
 pub use laws::tracks_listed;
 pub use lemma::{TrackLemma, TrackLemmas};
 pub use lemma_laws::{lemmas_checked, tracks_by_lemmas};
 pub use line::Line;
 pub use line_laws::{legal_by_lines, rows_by_lines, tracks_by_lines, trunks_by_wires};
+pub use line_ways::{missing_nets, open_tracks, with_track};
+pub use lines::{last_line, lines_to, no_nets};
 pub use net_laws::{failures, open_by_states, tracks_by_states};
 pub use passing::ways_through;
 pub use stepping::{last_ways, step_ways};
+pub use table::with_line;
 pub use track::{NetTrack, NetTracks, TrackWays};

@@ -13,7 +13,7 @@ use row_trails::NETS;
 use std::alloc::{AllocError, Global};
 
 /// The tracks of the nets that are open before the lines.
-pub(crate) fn open_tracks(
+pub fn open_tracks(
     alloc: Global,
     pins: &Pins,
     before: &[bool; NETS],
@@ -33,8 +33,8 @@ pub(crate) fn open_tracks(
     Ok(kept)
 }
 
-// The nets that hold the line and have no track yet.
-fn missing_nets(
+/// The nets below `nets` that hold the line before the rest of the lines and have no track yet, in ascending order.
+pub fn missing_nets(
     alloc: Global,
     pins: &Pins,
     nets: u32,
@@ -53,8 +53,8 @@ fn missing_nets(
         .collect(alloc)
 }
 
-// These tracks, and one of another net before them.
-fn with_track(
+/// These tracks, and one of another net before them.
+pub fn with_track(
     alloc: Global,
     here: NetTrack,
     tracks: &[NetTrack],

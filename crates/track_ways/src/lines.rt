@@ -55,11 +55,7 @@ fn is_gap(state: &State, column: &Column) -> bool
 }
 
 /// The lines from the state's last node line to the gate of the column.
-pub(crate) fn lines_to(
-    alloc: Global,
-    state: &State,
-    column: &Column,
-) -> Result<Vec<Line>, AllocError>
+pub fn lines_to(alloc: Global, state: &State, column: &Column) -> Result<Vec<Line>, AllocError>
     ensures { IfOk result (λ lines. lines.items ≡ lines_to state.now column.now) }
 {
     let p = left_end(&column.p);
@@ -77,7 +73,7 @@ pub(crate) fn lines_to(
 }
 
 /// The line at the state's open ends, where it is the last one.
-pub(crate) fn last_line(alloc: Global, state: &State) -> Result<Vec<Line>, AllocError>
+pub fn last_line(alloc: Global, state: &State) -> Result<Vec<Line>, AllocError>
     ensures { IfOk result (λ lines. lines.items ≡ node_line state.now.p_end state.now.n_end ∷ []) }
 {
     let mut lines = Vec::new(alloc);
@@ -87,7 +83,7 @@ pub(crate) fn last_line(alloc: Global, state: &State) -> Result<Vec<Line>, Alloc
 
 /// The table of no net.
 #[tactic(auto, using(crate::proofs::Tables::none_marked))]
-pub(crate) fn no_nets() -> [bool; NETS]
+pub fn no_nets() -> [bool; NETS]
     ensures { marked result ≡ (λ (net : NetOf). false) }
 {
     [false; NETS]

@@ -30,7 +30,7 @@ pub(crate) fn mark_line(table: &mut [bool; NETS], line: &Line)
 }
 
 /// The nets of the table, and those with a place at the line.
-pub(crate) fn with_line(before: &[bool; NETS], line: &Line) -> [bool; NETS]
+pub fn with_line(before: &[bool; NETS], line: &Line) -> [bool; NETS]
     requires { HasEntries 256 line.now }
     ensures { marked result ≡ with_line (marked before.now) line.now }
 {

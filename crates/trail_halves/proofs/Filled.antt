@@ -21,11 +21,12 @@ use Rattle.trail_state.specs.declared.edge.Edge.{Edge}
 use Rattle.trail_state.specs.declared.edge.FingerEnds.{FingerEnds}
 use Rattle.trail_state.proofs.Links.{fingers_of}
 use Rattle.trail_state.proofs.Sizes.{size_mono, size_zero, sum_classes}
+use Rattle.open_gates.specs.Merged.{net_in}
 use Rattle.trail_check.specs.Graph as graphs
 use Rattle.trail_check.specs.Graph.{class_of, ends_of, has_edge, is_odd}
 use Rattle.trail_check.proofs.Edges.{HaveLabels, class_is, class_labels, class_le, one_class}
 use Rattle.trail_halves.specs.Halves.{AreBelow, AreFilled, Fills, HavePools, edge_placed, half_ends, half_placed}
-use Rattle.trail_halves.specs.Halves.{is_even_class, links, net_in, place_ends, place_of}
+use Rattle.trail_halves.specs.Halves.{is_even_class, links, place_ends, place_of}
 use Rattle.trail_halves.proofs.Pools.{ends_pooled, one_at_least, place_ends_le, placed_below, placed_in}
 use Rattle.trail_halves.proofs.Turning.{even_many}
 

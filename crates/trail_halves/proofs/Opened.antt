@@ -1,8 +1,8 @@
 -- Each choice is an open one, which it fills. So each arrangement has open choices with few ends.
-use Rattle.std.proofs.Common.{ℕ, ◌≡◌, ◌+◌, ◌*◌, ◌<◌, ◌≤◌, ◌==◌, Bool, true, false, List, [], ◌∷◌, ◌++◌, append-nil}
-use Rattle.std.proofs.Common.{append_assoc, refl, sym, ap, subst, arith, ◌∙◌, Contains, IsPermutation}
-use Rattle.std.specs.List.{AllZip, filter_map, flat_map}
-use Rattle.std.proofs.lemmas.Bool.{both_ways, eq-eqb, eqb-true, or_left, or_right}
+use Rattle.std.proofs.Common.{ℕ, ◌≡◌, ◌+◌, ◌*◌, ◌≤◌, ◌==◌, Bool, true, false, List, [], ◌∷◌, ◌++◌, append-nil}
+use Rattle.std.proofs.Common.{append_assoc, refl, sym, ap, subst, arith, ◌∙◌, IsPermutation}
+use Rattle.std.specs.List.{filter_map, flat_map}
+use Rattle.std.proofs.lemmas.Bool.{both_ways, eqb-true}
 use Rattle.std.proofs.lemmas.List.Elements.{All-append, All-contains, All-nil}
 use Rattle.std.proofs.lemmas.List.Sorted.{IsPermutation-append, IsPermutation-append_comm, IsPermutation-append_left}
 use Rattle.std.proofs.lemmas.List.Sorted.{IsPermutation-append_right, IsPermutation-refl, IsPermutation-trans}
@@ -11,22 +11,19 @@ use Rattle.cell_num.specs.declared.finger.Row.{Row}
 use Rattle.cell_num.specs.declared.finger.Finger.{Finger}
 use Rattle.cell_num.specs.declared.finger.Fingers.{Fingers}
 use Rattle.cell_num.specs.Fingers.{AreFingers}
-use Rattle.cell_num.proofs.Lists.{Kept, all_from_contains, contains_here, contains_there, kept_from}
-use Rattle.cell_num.proofs.Pairs.{test_there}
+use Rattle.cell_num.proofs.Lists.{Kept, all_from_contains, kept_from}
 use Rattle.row_model.specs.declared.column.Column.{Column}
 use Rattle.row_model.specs.Arrangement.{IsArrangement, place}
 use Rattle.row_model.specs.Gaps.{gaps_of}
 use Rattle.trail_state.specs.declared.edge.Edge.{Edge}
 use Rattle.trail_state.specs.declared.edge.FingerEnds.{FingerEnds}
 use Rattle.trail_state.specs.Choices.{IsChoice, fingers_on}
-use Rattle.trail_state.specs.Levels.{IsGate, IsOrder}
-use Rattle.trail_state.specs.Places.{is_end}
-use Rattle.trail_state.proofs.Law.{is_net_gate}
+use Rattle.trail_state.specs.Levels.{IsOrder}
 use Rattle.trail_state.proofs.Members.{Passes}
-use Rattle.trail_state.proofs.Opened.{met_can}
 use Rattle.trail_check.specs.Rows.{AreChoices, HasChoices, ends_in}
-use Rattle.trail_check.proofs.Law.{choices_of_row}
-use Rattle.trail_halves.specs.Halves.{AreBelow, AreFilled, Fills, HavePools}
+use Rattle.trail_check.proofs.Law.{all_below, choices_of_row, gate_below}
+use Rattle.trail_check.proofs.Together.{zip_append}
+use Rattle.trail_halves.specs.Halves.{AreFilled, Fills, HavePools}
 use Rattle.trail_halves.specs.Open.{AreOpenChoices, ArePools, HasOpenChoices, IsOpenChoice, OpenChoice, edges_in}
 use Rattle.trail_halves.specs.Open.{half_in, halves_in, open_ends, row_of}
 use Rattle.trail_halves.proofs.Filled.{half_ends_le}
@@ -43,34 +40,7 @@ crossed a b c d =
     (subst (IsPermutation (a ++ (b ++ (c ++ d)))) (sym (append_assoc a c (b ++ d)))
     (IsPermutation-append_right a (b ++ (c ++ d)) (c ++ (b ++ d)) inner))
 
-zip_append : {X Y : Type 0} (R : X → Y → Type 0) (xs us : List X) (ys vs : List Y) → AllZip R xs ys → AllZip R us vs
-    → AllZip R (xs ++ us) (ys ++ vs)
-zip_append R [] us [] vs h k = k
-zip_append R [] us (y ∷ ys) vs h k = absurd h
-zip_append R (x ∷ xs) us [] vs h k = absurd h
-zip_append R (x ∷ xs) us (y ∷ ys) vs h k = (h.0, zip_append R xs us ys vs h.1 k)
-
 module _ (f : Fingers) (ok : AreFingers f) where
-  -- the nodes of a choice
-  choice_below : (g : ℕ) (c : List Edge) → g < f.nets → IsChoice f g c → AreBelow (256 * f.nets) c
-  choice_below g c within choice =
-      all_from_contains (λ (e : Edge). (e.a.0 < 256 * f.nets) × (e.b.0 < 256 * f.nets)) c (λ e k. (
-        (met_can f g ok within c choice e.a.0
-            (test_there (is_end e.a.0) c e k (or_left (e.a.0 == e.a.0) (e.b.0 == e.a.0) (eq-eqb e.a.0 e.a.0 refl)))).1,
-        (met_can f g ok within c choice e.b.0
-            (test_there (is_end e.b.0) c e k (or_right (e.a.0 == e.b.0) (e.b.0 == e.b.0) (eq-eqb e.b.0 e.b.0 refl)))).1,
-      ))
-
-  all_below : (gs : List NetNo) (cs : List (List Edge)) → ((g : NetNo) → Contains gs g → g.0 < f.nets)
-      → AreChoices f gs cs → AreBelow (256 * f.nets) (flat_map (λ (c : List Edge). c) cs)
-  all_below [] [] within h = All-nil (λ (e : Edge). (e.a.0 < 256 * f.nets) × (e.b.0 < 256 * f.nets))
-  all_below [] (c ∷ cs) within h = absurd h
-  all_below (g ∷ gs) [] within h = absurd h
-  all_below (g ∷ gs) (c ∷ cs) within h =
-      All-append (λ (e : Edge). (e.a.0 < 256 * f.nets) × (e.b.0 < 256 * f.nets)) c
-      (flat_map (λ (d : List Edge). d) cs) (choice_below g.0 c (within g (contains_here g gs)) h.0)
-      (all_below gs cs (λ k l. within k (contains_there g gs k l)) h.1)
-
   module _ (r : Row) (counted pool : ℕ → Bool) (pools : ArePools f r counted pool) where
     -- a choice of a gate as an open one
     record Opening (g : ℕ) (c : List Edge) : Type 0 where
@@ -183,7 +153,5 @@ module _ (f : Fingers) (ok : AreFingers f) where
         let least : open_ends f r pool o.choices ≤ ends_in f filled.choices =
         half_ends_le (256 * f.nets) r pool (edges_in o.choices) o.filled
         (flat_map (λ (c : List Edge). c) filled.choices) (halves_in o.choices) o.have o.fills o.same
-        (all_below order filled.choices
-        (λ g k. is_net_gate f g.0 ok (All-contains (λ (h : NetNo). IsGate f h.0) order g is_order.gates k))
-        filled.each) in
+        (all_below f ok order filled.choices (gate_below f ok order is_order) filled.each) in
         record { choices = o.choices; each = o.each; few = omega (arith, least, filled.few) }

@@ -23,8 +23,9 @@ use Rattle.trail_state.specs.Nodes.{is_net_in}
 use Rattle.trail_state.specs.Pairings.{nets_at}
 use Rattle.trail_state.proofs.Members.{Passes, filter_off, filter_on, passes_from}
 use Rattle.trail_state.proofs.Opened.{in_net, left_has, net_small, right_has}
+use Rattle.open_gates.specs.Merged.{net_in}
 use Rattle.trail_check.proofs.Edges.{of_edge}
-use Rattle.trail_halves.specs.Halves.{AreFilled, Fills, net_in}
+use Rattle.trail_halves.specs.Halves.{AreFilled, Fills}
 use Rattle.trail_halves.specs.Open.{half_in, half_of, is_filled, is_none, row_of}
 
 -- an edge between two nodes of the finger's nets, whichever of them is on the left

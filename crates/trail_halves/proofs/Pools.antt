@@ -13,9 +13,10 @@ use Rattle.row_trails.specs.Trails.{size, size_same}
 use Rattle.trail_state.specs.declared.edge.Edge.{Edge}
 use Rattle.trail_state.specs.declared.edge.FingerEnds.{FingerEnds}
 use Rattle.trail_state.proofs.Sizes.{size_zero}
+use Rattle.open_gates.specs.Merged.{net_in}
 use Rattle.trail_check.specs.Graph.{degree, is_odd}
 use Rattle.trail_check.proofs.Edges.{meets}
-use Rattle.trail_halves.specs.Halves.{AreBelow, AreFilled, Fills, HavePools, free, net_in, node_ends, place_ends}
+use Rattle.trail_halves.specs.Halves.{AreBelow, AreFilled, Fills, HavePools, free, node_ends, place_ends}
 use Rattle.trail_halves.specs.Halves.{place_of, pool_ends, short, waiting}
 use Rattle.trail_halves.proofs.Turning.{Turned, edges_turn, ends_in, odd_in}
 

@@ -1,20 +1,15 @@
 -- Graphs some of whose edges are known in one row alone, and the ends that they have, whatever is in the other row.
-use Rattle.std.specs.Prelude.{ℕ, ◌≡◌, ◌+◌, ◌-◌, ◌*◌, ◌/◌, ◌%◌, ◌<◌, ◌==◌, ◌&&◌, ◌⊎◌, Bool, true, not, if◌then◌else◌}
+use Rattle.std.specs.Prelude.{ℕ, ◌≡◌, ◌+◌, ◌-◌, ◌*◌, ◌%◌, ◌<◌, ◌==◌, ◌&&◌, ◌⊎◌, Bool, true, not, if◌then◌else◌}
 use Rattle.std.specs.Prelude.{leb, ltb, List, ◌++◌, map, sum_by, All}
 use Rattle.std.specs.List.{AllZip}
 use Rattle.cell_num.specs.declared.finger.Row.{Row}
-use Rattle.cell_num.specs.declared.finger.Row.TheVariants.{P, N}
 use Rattle.cell_num.specs.Fingers.{sum_below}
 use Rattle.row_trails.specs.Trails.{size}
 use Rattle.trail_state.specs.declared.edge.Edge.{Edge}
 use Rattle.trail_state.specs.declared.edge.FingerEnds.{FingerEnds}
 use Rattle.trail_state.specs.Places.{node_at}
+use Rattle.open_gates.specs.Merged.{net_in}
 use Rattle.trail_check.specs.Graph.{class_of, has_edge, is_odd}
-
--- the net of a node in the row: a node is 256 * p + n
-abbrev pub net_in : Row → ℕ → ℕ
-net_in P v = v / 256
-net_in N v = v % 256
 
 -- the nets of the row at the two ends of an edge
 abbrev pub HasNets : Row → Edge → ℕ → ℕ → Type 0

@@ -1,0 +1,60 @@
+-- The listed tracks behind a next column of a state, and behind its last line.
+use Rattle.std.proofs.Common.{ℕ, ◌≡◌, ◌↔◌, ◌∷◌, false, List, [], sym, subst, All, Any, Contains}
+use Rattle.cell_num.specs.declared.net.NetNo.{NetNo}
+use Rattle.cell_num.specs.declared.net.Pins.{Pins}
+use Rattle.cell_num.proofs.Lists.{all_from_contains, contains_none}
+use Rattle.cell_num.proofs.Pairs.{Some', any_from_some}
+use Rattle.row_state.specs.declared.kind.Kinds.{Kinds}
+use Rattle.row_state.specs.declared.state.State.{State}
+use Rattle.row_state.specs.declared.step.Step.{Step}
+use Rattle.row_state.specs.Start.{AreSomeKinds, IsState}
+use Rattle.row_state.specs.Steps.{column_of, state_after}
+use Rattle.track_ways.specs.declared.track.NetTrack.{NetTrack}
+use Rattle.track_ways.specs.Paths.{lines_to}
+use Rattle.track_ways.specs.Rows.{gate_line, lines_between, node_line}
+use Rattle.track_ways.specs.States.{is_behind, is_still_ahead}
+use Rattle.track_ways.specs.Tracks.{AreKeys, AreTracksOf, IsSingle}
+use Rattle.track_ways.specs.Ways.{is_behind_step, nets_below}
+use Rattle.track_ways.proofs.Nets.{behind_among, end_among, lines_among}
+use Rattle.track_ways.proofs.Steps.{empty, some_lines}
+use Rattle.piece_lines.specs.Paths.{PieceEnds, PieceGoes}
+use Rattle.piece_ways.specs.PieceWays.{piece_ends_ways, piece_goes_ways}
+use Rattle.piece_ways.proofs.Complete.{pass_complete}
+use Rattle.piece_ways.proofs.Exact.{Passed, pass_exact}
+use Rattle.piece_ways.proofs.Keys.{pass_keys}
+
+pub step_all : (pins : Pins) (limit : ℕ) (k : Kinds) (s : State) (step : Step) (tracks : List NetTrack) (track next : NetNo → ℕ) → AreTracksOf tracks track → PieceGoes pins limit k s track step next → Any (λ way. AreTracksOf way next) (piece_goes_ways pins limit k s tracks step)
+step_all pins limit k s step tracks track next have goes = any_from_some (λ way. AreTracksOf way next) (piece_goes_ways pins limit k s tracks step) (pass_complete pins limit (nets_below k.nets) (is_behind k s) track (lines_to s (column_of k step)) (is_still_ahead k (state_after k s step)) next tracks have goes)
+
+-- the tracks from which a listed way goes on
+abbrev pub IsFrom : Pins → ℕ → Kinds → State → Step → List NetTrack → List NetTrack → Type 0
+IsFrom pins limit k s step tracks way = (track : NetNo → ℕ) × (next : NetNo → ℕ) × AreTracksOf tracks track × PieceGoes pins limit k s track step next × AreTracksOf way next
+
+pub step_only : (pins : Pins) (limit : ℕ) (k : Kinds) (s : State) (step : Step) (tracks way : List NetTrack) → AreSomeKinds k → IsState k s → IsSingle tracks → Contains (piece_goes_ways pins limit k s tracks step) way → IsFrom pins limit k s step tracks way
+step_only pins limit k s step tracks way some state one there =
+    let p : Passed pins limit (is_behind k s) (lines_to s (column_of k step)) (is_still_ahead k (state_after k s step)) tracks way = pass_exact pins limit (nets_below k.nets) (is_behind k s) (lines_to s (column_of k step)) (is_still_ahead k (state_after k s step)) tracks way one (behind_among k s some) (lines_among k s step some state) there in
+    (p.track, p.last, p.from, p.passes, p.to)
+
+pub step_keys : (pins : Pins) (limit : ℕ) (k : Kinds) (s : State) (step : Step) (tracks way : List NetTrack) → AreSomeKinds k → IsState k s → IsSingle tracks → Contains (piece_goes_ways pins limit k s tracks step) way → AreKeys pins (is_behind_step k s step) (is_still_ahead k (state_after k s step)) way
+step_keys pins limit k s step tracks way some state one there =
+    pass_keys pins limit (nets_below k.nets) (is_behind k s) (lines_to s (column_of k step)) (is_still_ahead k (state_after k s step)) tracks way one (behind_among k s some) (lines_among k s step some state)
+    (λ none net o. absurd (some_lines (lines_between s.p_end s.n_end (column_of k step)) (gate_line (column_of k step)) none)) there
+
+pub ends_listed : (pins : Pins) (limit : ℕ) (k : Kinds) (s : State) (tracks : List NetTrack) → AreSomeKinds k → IsState k s → IsSingle tracks → (piece_ends_ways pins limit k s tracks ≡ []) ↔ ((track : NetNo → ℕ) → AreTracksOf tracks track → PieceEnds pins limit k s track → ⊥)
+ends_listed pins limit k s tracks some state one = (there, back)
+  where
+    there : piece_ends_ways pins limit k s tracks ≡ [] → (track : NetNo → ℕ) → AreTracksOf tracks track → PieceEnds pins limit k s track → ⊥
+    there none track have (last, passes) =
+        let found : Some' (λ way. AreTracksOf way last) (piece_ends_ways pins limit k s tracks) = pass_complete pins limit (nets_below k.nets) (is_behind k s) track (node_line s.p_end s.n_end ∷ []) (λ net. false) last tracks have passes in
+        contains_none found.it (subst (λ ws. Contains ws found.it) none found.there)
+
+    back : ((track : NetNo → ℕ) → AreTracksOf tracks track → PieceEnds pins limit k s track → ⊥) → piece_ends_ways pins limit k s tracks ≡ []
+    back none = empty (piece_ends_ways pins limit k s tracks) (λ way at.
+        let p : Passed pins limit (is_behind k s) (node_line s.p_end s.n_end ∷ []) (λ net. false) tracks way = pass_exact pins limit (nets_below k.nets) (is_behind k s) (node_line s.p_end s.n_end ∷ []) (λ net. false) tracks way one (behind_among k s some) (end_among k s state) at in
+        none p.track p.from (p.last, p.passes))
+
+pub each_listed : (pins : Pins) (limit : ℕ) (k : Kinds) (s : State) (step : Step) (tracks : List NetTrack) (ways : List (List NetTrack)) → ways ≡ piece_goes_ways pins limit k s tracks step → (track next : NetNo → ℕ) → AreTracksOf tracks track → PieceGoes pins limit k s track step next → Any (λ way. AreTracksOf way next) ways
+each_listed pins limit k s step tracks ways is track next have goes = subst (λ ws. Any (λ way. AreTracksOf way next) ws) (sym is) (step_all pins limit k s step tracks track next have goes)
+
+pub each_goes : (pins : Pins) (limit : ℕ) (k : Kinds) (s : State) (step : Step) (tracks : List NetTrack) (ways : List (List NetTrack)) → AreSomeKinds k → IsState k s → ways ≡ piece_goes_ways pins limit k s tracks step → IsSingle tracks → All (IsFrom pins limit k s step tracks) ways
+each_goes pins limit k s step tracks ways some state is one = all_from_contains (IsFrom pins limit k s step tracks) ways (λ way there. step_only pins limit k s step tracks way some state one (subst (λ ws. Contains ws way) is there))

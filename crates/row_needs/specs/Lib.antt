@@ -1,0 +1,5 @@
+-- What contracts of public calls cite.
+pub mod Need
+pub mod Rest
+-- What inner contracts and proofs alone cite.
+pub mod Best
