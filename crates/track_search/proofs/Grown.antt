@@ -75,12 +75,6 @@ shut_fails value pins limit k lemmas s allowed left step sum shut way other poss
       | inr any ↦ inr (covers_any lemmas (state_after k s step) left next any)
     ]))
 
--- a lemma speaks of the state after the column for all tracks
-pub closed_fails : (value : Row → State → Kinds → ℕ) (pins : Pins) (limit : ℕ) (k : Kinds) (lemmas : List TrackLemma) (s : State) (allowed : ℕ) (ways : List (List NetTrack)) (step : Step) (ahead : Ahead) → IsAhead pins limit k s allowed step ahead → Any (CoversAll ahead.state.state ahead.left) lemmas → All (λ way. StepFailsListed value pins limit k lemmas (lemma_at s allowed way) step) ways
-closed_fails value pins limit k lemmas s allowed ways step ahead a any =
-    let fails : ColumnFails value pins limit k lemmas s allowed step = shut_fails value pins limit k lemmas s allowed ahead.left step a.left (inr (subst (λ (z : State). Any (CoversAll z ahead.left) lemmas) a.state any)) in
-    all_from_contains (λ way. StepFailsListed value pins limit k lemmas (lemma_at s allowed way) step) ways (λ way there. fails way)
-
 -- one more column whose ways all fail
 pub ahead_fails : (value : Row → State → Kinds → ℕ) (pins : Pins) (limit : ℕ) (k : Kinds) (xs ys more : List TrackLemma) (s : State) (allowed : ℕ) (ways onward : List (List NetTrack)) (step : Step) (ahead : Ahead) → ys ≡ xs ++ more → IsAhead pins limit k s allowed step ahead → All (AreTaken pins limit k xs s step ahead.state.state ahead.left onward) ways → AreCovered ys ahead.state.state ahead.left onward → All (λ way. StepFailsListed value pins limit k ys (lemma_at s allowed way) step) ways
 ahead_fails value pins limit k xs ys more s allowed ways onward step ahead is a taken covered =
@@ -139,10 +133,6 @@ grown_above value pins limit k gaps budget columns left p q r fewer g h =
 pub grown_known : (value : Row → State → Kinds → ℕ) (pins : Pins) (limit : ℕ) (k : Kinds) (gaps budget columns : ℕ) (p q r : Progress) → IsGrown value pins limit k gaps budget columns p q → r.lemmas ≡ q.lemmas → IsNoted value pins limit k r → IsGrown value pins limit k gaps budget columns p r
 grown_known value pins limit k gaps budget columns p q r g same noted =
     grown_on value pins limit k gaps budget columns p q r g (grown_same value pins limit k gaps budget columns q r (kept_same value pins limit k gaps budget q r g.kept same noted) same)
-
--- the columns that failed still do
-pub still_fail : (value : Row → State → Kinds → ℕ) (pins : Pins) (limit : ℕ) (k : Kinds) (xs ys : List TrackLemma) (s : State) (allowed : ℕ) (ways : List (List NetTrack)) (items : List Candidate) → ys ≡ xs → All (WaysFail value pins limit k xs s allowed ways) items → All (WaysFail value pins limit k ys s allowed ways) items
-still_fail value pins limit k xs ys s allowed ways items same all = subst (λ ls. All (WaysFail value pins limit k ls s allowed ways) items) (sym same) all
 
 -- where each next column fails and the end does, lemmas on the ways are justified
 each_justified : (value : Row → State → Kinds → ℕ) (pins : Pins) (limit : ℕ) (k : Kinds) (lemmas : List TrackLemma) (s : State) (allowed : ℕ) (ways : List (List NetTrack)) (all : List Candidate) → AreCandidates k all → IsState k s → EndsFit k s → All (IsOfOpen pins k s) ways → All (WaysFail value pins limit k lemmas s allowed ways) all → ((HasFingers k s → ⊥) → All (EndsFail pins limit k s) ways) → All (λ way. IsJustifiedListed value pins limit k lemmas (lemma_at s allowed way)) ways

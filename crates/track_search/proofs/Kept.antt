@@ -1,5 +1,5 @@
 -- The lemmas that are kept of ways: their tracks in order, and why none follows from an earlier one.
-use Rattle.std.proofs.Common.{ℕ, Bool, true, not, ltb, ◌&&◌, ◌||◌, ◌≡◌, ◌+◌, ◌<◌, ◌≤◌, ◌++◌, List, [], ◌∷◌, length, get_or, take, map, inl, inr, ap, subst, arith, All, Any, Contains, length-append}
+use Rattle.std.proofs.Common.{ℕ, Bool, true, not, ltb, ◌&&◌, ◌||◌, ◌≡◌, ◌<◌, ◌≤◌, ◌++◌, List, [], ◌∷◌, get_or, take, map, inl, inr, ap, subst, arith, All, Any, Contains, length-append}
 use Rattle.std.specs.List.{AllPairs, list_all, range_with_len}
 use Rattle.std.proofs.lemmas.Bool.{and_parts, ltb-true}
 use Rattle.std.proofs.lemmas.List.{get_or_append_left, take-append-le}

@@ -44,6 +44,7 @@ fn ends_open<B: RowBound>(
 
 /// Whether a kept lemma without tracks is about the state and as many gaps as are allowed. It asks for one and keeps
 /// it where each completion has a crowded line. Where it answers false, some completion with that many gaps has none.
+#[cycle(closing)]
 pub(crate) fn closes<B: RowBound>(
     task: &Task<B>,
     progress: &mut Progress,
@@ -82,14 +83,11 @@ pub(crate) fn closes<B: RowBound>(
         return Ok(false);
     }
     for next in task.candidates {
-        let Some(ahead) = state_ahead(task, progress, trails, at, &before, next, allowed)? else {
-            continue;
-        };
-        let closed = match closes(task, progress, trails, &ahead.state, ahead.left) {
-            Ok(closed) => closed,
+        let opened = match open_ahead(task, progress, trails, at, &before, next, allowed) {
+            Ok(opened) => opened,
             Err(halt) => return Err(halt),
         };
-        if !closed {
+        if opened.is_some() {
             progress.note_free(task, at, allowed)?;
             return Ok(false);
         }
@@ -103,6 +101,7 @@ pub(crate) fn closes<B: RowBound>(
 
 /// The state after the column with a completion that has no crowded line, or none where the column fails whatever the
 /// tracks are. `before` has the nets with a place before the state.
+#[cycle(closing)]
 pub(crate) fn open_ahead<B: RowBound>(
     task: &Task<B>,
     progress: &mut Progress,
@@ -130,6 +129,8 @@ pub(crate) fn open_ahead<B: RowBound>(
         task.now.limit task.now.kinds.now progress.new.lemmas at.now.state allowed next.now.step)) }
     ensures some { IfOk result (λ ahead. IfSome ahead (IsAhead task.now.pins.now task.now.limit task.now.kinds.now
         at.now.state allowed next.now.step)) }
+    ensures free { IfOk result (λ ahead. IfSome ahead (λ _. HasUncrowded task.now.pins.now task.now.limit
+        task.now.kinds.now at.now.state allowed)) }
     ensures spent { IfErr result (λ halt. halt ≡ Spent → IsSpentBelow (B.value task.now.bound.now) task.now.pins.now
         task.now.limit task.now.kinds.now task.now.gaps task.now.budget) }
 {

@@ -3,7 +3,7 @@ use Rattle.row_state.specs.declared.state.State.{State}
 use Rattle.row_state.specs.Completion.{cost_of}
 use Rattle.row_state.specs.Steps.{IsPossible, column_of, state_after}
 use Rattle.track_ways.specs.Certificate.{NeedsMore}
-use Rattle.track_search.proofs.Grown.{crowded_fails, kept_same, shut_fails}
+use Rattle.track_search.proofs.Grown.{crowded_fails, shut_fails}
 use Rattle.track_search.proofs.ahead.state_ahead.Goals as goal
 
 pub returns-in_default-clause-none : goal.returns-in_default-clause-none

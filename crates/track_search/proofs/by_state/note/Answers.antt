@@ -1,4 +1,4 @@
-use Rattle.std.proofs.Common.{rules, ℕ, ◌≤◌, ◌<◌, ◌⊎◌, ◌↔◌, ap, length, subst}
+use Rattle.std.proofs.Common.{rules, ◌≤◌, ◌<◌, ◌⊎◌, ◌↔◌, ap, length, subst}
 use Rattle.track_search.specs.declared.known.Known.{Known}
 use Rattle.track_search.specs.Bare.{IsUpTo, known_at}
 use Rattle.track_search.proofs.Bare.{bare_set}

@@ -1,11 +1,8 @@
-use Rattle.std.proofs.Common.{rules, ◌≡◌, ◌≤◌, ◌<◌, ◌+◌, ◌++◌, All, Any, None, ap, arith, get_or, map, refl, reverse, subst, sym, take, ◌∙◌}
+use Rattle.std.proofs.Common.{rules, ◌≤◌, ◌<◌, ◌+◌, ◌++◌, All, None, ap, arith, get_or, map, refl, reverse, subst, sym, take, ◌∙◌}
 use Rattle.std.proofs.lemmas.List.Elements.{All-more, All-nil}
 use Rattle.row_state.specs.declared.candidate.Candidate.{Candidate}
-use Rattle.row_state.specs.declared.state.State.{State}
 use Rattle.row_state.specs.Candidates.{IsNumbered}
 use Rattle.row_state.specs.Start.{columns_left}
-use Rattle.row_state.proofs.Calls.{fewer_after}
-use Rattle.row_state.proofs.Valid.{gates_are_nets}
 use Rattle.lemma_check.specs.Noted.{AreNoted}
 use Rattle.track_ways.specs.Paths.{EndsFit}
 use Rattle.track_check.specs.Noted.{AreNotedAt, state_of}
@@ -16,7 +13,7 @@ use Rattle.track_search.specs.Visit.{AreBelow, AreCovered, AreFresh, AreTaken, A
 use Rattle.track_search.proofs.Found.{first_at_end, first_through}
 use Rattle.track_search.proofs.Grown.{WaysFail, ahead_fails, column_fails, grown_above, grown_on, grown_same, grown_through, kept_covers, kept_grown, kept_sound, kept_spent, ways_fail_more}
 use Rattle.track_search.proofs.Kept.{of_open, ways_below}
-use Rattle.track_search.proofs.Ways.{ends_fit_after, ways_after}
+use Rattle.track_search.proofs.Ways.{Onward, onward, ways_after}
 use Rattle.track_search.proofs.descent.+visit.Goals as goal
 
 blank : Candidate
@@ -71,14 +68,14 @@ pub visit-requires : goal.visit-requires
 unfolding blank
 visit-requires g t c κs within =
     let a : IsAhead c.args.task.now.pins.now c.args.task.now.limit c.args.task.now.kinds.now c.args.at.now.state c.args.allowed (get_or c.args.task.now.candidates.now c.loop-next.next-index blank).step c.in-Some.ahead = rw c.in-Some.is at c.in-Ok.ensures.some in
-    let fewer : columns_left c.args.task.now.kinds.now c.args.at.now.state ≡ columns_left c.args.task.now.kinds.now c.in-Some.ahead.state.state + 1 = fewer_after c.args.task.now.kinds.now c.args.at.now.state (get_or c.args.task.now.candidates.now c.loop-next.next-index blank).step c.show_limits.ensures a.possible ∙ ap (λ (z : State). columns_left c.args.task.now.kinds.now z + 1) (sym a.state) in
-    let less : columns_left c.args.task.now.kinds.now c.in-Some.ahead.state.state < columns_left c.args.task.now.kinds.now c.args.at.now.state = omega (arith, fewer) in
+    let on : Onward c.args.task.now.kinds.now c.args.at.now.state c.args.task.now.gaps c.in-Some.ahead = onward c.args.task.now.pins.now c.args.task.now.limit c.args.task.now.kinds.now c.args.at.now.state c.args.allowed c.args.task.now.gaps (get_or c.args.task.now.candidates.now c.loop-next.next-index blank).step c.in-Some.ahead c.show_limits.ensures c.requires.ends c.requires.gaps a in
+    let less : columns_left c.args.task.now.kinds.now c.in-Some.ahead.state.state < columns_left c.args.task.now.kinds.now c.args.at.now.state = omega (arith, on.fewer) in
     let numbered : IsNumbered c.args.task.now.kinds.now c.in-Some.ahead.state = a.numbered in
-    let ends : EndsFit c.args.task.now.kinds.now c.in-Some.ahead.state.state = subst (EndsFit c.args.task.now.kinds.now) (sym a.state) (ends_fit_after c.args.task.now.kinds.now c.args.at.now.state (get_or c.args.task.now.candidates.now c.loop-next.next-index blank).step (gates_are_nets c.args.task.now.kinds.now c.show_limits.ensures) c.requires.ends a.possible) in
+    let ends : EndsFit c.args.task.now.kinds.now c.in-Some.ahead.state.state = on.ends in
     let ways : AreWaysAt c.args.task.now.pins.now c.args.task.now.kinds.now c.in-Some.ahead.state.state c.in_ok-onward.onward = subst (λ z. AreWaysAt c.args.task.now.pins.now c.args.task.now.kinds.now z c.in_ok-onward.onward) (sym a.state) (ways_after c.args.task.now.pins.now c.args.task.now.limit c.args.task.now.kinds.now c.args.at.now.state (get_or c.args.task.now.candidates.now c.loop-next.next-index blank).step c.args.ways.now c.in_ok-onward.onward c.show_limits.ensures c.requires.numbered.valid c.requires.ends a.possible c.requires.ways c.in_ok-onward.ensures.from) in
     let below : All (AreBelow c.args.task.now.limit) c.in_ok-onward.onward = ways_below c.args.task.now.pins.now c.args.task.now.limit c.args.task.now.kinds.now c.args.at.now.state (get_or c.args.task.now.candidates.now c.loop-next.next-index blank).step c.args.ways.now c.in_ok-onward.onward c.requires.below c.in_ok-onward.ensures.from in
     let fresh : AreFresh c.open_ahead.new.progress.lemmas c.in-Some.ahead.state.state c.in-Some.ahead.left c.in_ok-onward.onward = subst (λ ls. AreFresh ls c.in-Some.ahead.state.state c.in-Some.ahead.left c.in_ok-onward.onward) c.noted.ensures.lemmas c.in_ok-onward.ensures.fresh in
-    let gaps : c.in-Some.ahead.left ≤ c.args.task.now.gaps = omega (arith, a.left, c.requires.gaps) in
+    let gaps : c.in-Some.ahead.left ≤ c.args.task.now.gaps = on.gaps in
     let kept : IsKept (g.B.RowBound.value c.args.task.now.bound.now) c.args.task.now.pins.now c.args.task.now.limit c.args.task.now.kinds.now c.args.task.now.gaps c.args.task.now.budget c.open_ahead.new.progress = c.in-Ok.ensures.grown.kept in
     let trails : AreNoted (g.B.RowBound.trails_of c.args.task.now.bound.now) c.args.task.now.kinds.now c.open_ahead.new.trails = c.in-Ok.ensures.trails in
     search rules
@@ -87,8 +84,8 @@ pub returns-in-Some-tried-clause-grown : goal.returns-in-Some-tried-clause-grown
 unfolding blank
 returns-in-Some-tried-clause-grown g t c =
     let a : IsAhead c.args.task.now.pins.now c.args.task.now.limit c.args.task.now.kinds.now c.args.at.now.state c.args.allowed (get_or c.args.task.now.candidates.now c.loop-next.next-index blank).step c.in-Some.ahead = rw c.in-Some.is at c.in-Ok.ensures.some in
-    let fewer : columns_left c.args.task.now.kinds.now c.args.at.now.state ≡ columns_left c.args.task.now.kinds.now c.in-Some.ahead.state.state + 1 = fewer_after c.args.task.now.kinds.now c.args.at.now.state (get_or c.args.task.now.candidates.now c.loop-next.next-index blank).step c.show_limits.ensures a.possible ∙ ap (λ (z : State). columns_left c.args.task.now.kinds.now z + 1) (sym a.state) in
-    grown_above (g.B.RowBound.value c.args.task.now.bound.now) c.args.task.now.pins.now c.args.task.now.limit c.args.task.now.kinds.now c.args.task.now.gaps c.args.task.now.budget (columns_left c.args.task.now.kinds.now c.args.at.now.state) (columns_left c.args.task.now.kinds.now c.in-Some.ahead.state.state) c.args.progress.now c.open_ahead.new.progress c.visit.new.progress fewer
+    let on : Onward c.args.task.now.kinds.now c.args.at.now.state c.args.task.now.gaps c.in-Some.ahead = onward c.args.task.now.pins.now c.args.task.now.limit c.args.task.now.kinds.now c.args.at.now.state c.args.allowed c.args.task.now.gaps (get_or c.args.task.now.candidates.now c.loop-next.next-index blank).step c.in-Some.ahead c.show_limits.ensures c.requires.ends c.requires.gaps a in
+    grown_above (g.B.RowBound.value c.args.task.now.bound.now) c.args.task.now.pins.now c.args.task.now.limit c.args.task.now.kinds.now c.args.task.now.gaps c.args.task.now.budget (columns_left c.args.task.now.kinds.now c.args.at.now.state) (columns_left c.args.task.now.kinds.now c.in-Some.ahead.state.state) c.args.progress.now c.open_ahead.new.progress c.visit.new.progress on.fewer
     (grown_on (g.B.RowBound.value c.args.task.now.bound.now) c.args.task.now.pins.now c.args.task.now.limit c.args.task.now.kinds.now c.args.task.now.gaps c.args.task.now.budget (columns_left c.args.task.now.kinds.now c.args.at.now.state) c.args.progress.now c.loop-next.progress c.open_ahead.new.progress c.loop-next.invariant.0 c.in-Ok.ensures.grown) c.in-Ok-visit.ensures.grown
 
 pub returns-in-Some-tried-clause-first : goal.returns-in-Some-tried-clause-first
@@ -107,10 +104,10 @@ pub loop-next-preserved : goal.loop-next-preserved
 unfolding blank
 loop-next-preserved g t c =
     let a : IsAhead c.args.task.now.pins.now c.args.task.now.limit c.args.task.now.kinds.now c.args.at.now.state c.args.allowed (get_or c.args.task.now.candidates.now c.loop-next.next-index blank).step c.in-Some.ahead = rw c.in-Some.is at c.in-Ok.ensures.some in
-    let fewer : columns_left c.args.task.now.kinds.now c.args.at.now.state ≡ columns_left c.args.task.now.kinds.now c.in-Some.ahead.state.state + 1 = fewer_after c.args.task.now.kinds.now c.args.at.now.state (get_or c.args.task.now.candidates.now c.loop-next.next-index blank).step c.show_limits.ensures a.possible ∙ ap (λ (z : State). columns_left c.args.task.now.kinds.now z + 1) (sym a.state) in
+    let on : Onward c.args.task.now.kinds.now c.args.at.now.state c.args.task.now.gaps c.in-Some.ahead = onward c.args.task.now.pins.now c.args.task.now.limit c.args.task.now.kinds.now c.args.at.now.state c.args.allowed c.args.task.now.gaps (get_or c.args.task.now.candidates.now c.loop-next.next-index blank).step c.in-Some.ahead c.show_limits.ensures c.requires.ends c.requires.gaps a in
     let covered : AreCovered c.visit.new.progress.lemmas c.in-Some.ahead.state.state c.in-Some.ahead.left c.in_ok-onward.onward = rw c.in_default-tried.is at c.in-Ok-visit.ensures.none in
     let taken : All (AreTaken c.args.task.now.pins.now c.args.task.now.limit c.args.task.now.kinds.now c.open_ahead.new.progress.lemmas c.args.at.now.state (get_or c.args.task.now.candidates.now c.loop-next.next-index blank).step c.in-Some.ahead.state.state c.in-Some.ahead.left c.in_ok-onward.onward) c.args.ways.now = subst (λ ls. All (AreTaken c.args.task.now.pins.now c.args.task.now.limit c.args.task.now.kinds.now ls c.args.at.now.state (get_or c.args.task.now.candidates.now c.loop-next.next-index blank).step c.in-Some.ahead.state.state c.in-Some.ahead.left c.in_ok-onward.onward) c.args.ways.now) c.noted.ensures.lemmas c.in_ok-onward.ensures.taken in (
-      grown_through (g.B.RowBound.value c.args.task.now.bound.now) c.args.task.now.pins.now c.args.task.now.limit c.args.task.now.kinds.now c.args.task.now.gaps c.args.task.now.budget (columns_left c.args.task.now.kinds.now c.args.at.now.state) (columns_left c.args.task.now.kinds.now c.in-Some.ahead.state.state) c.args.progress.now c.open_ahead.new.progress c.visit.new.progress fewer
+      grown_through (g.B.RowBound.value c.args.task.now.bound.now) c.args.task.now.pins.now c.args.task.now.limit c.args.task.now.kinds.now c.args.task.now.gaps c.args.task.now.budget (columns_left c.args.task.now.kinds.now c.args.at.now.state) (columns_left c.args.task.now.kinds.now c.in-Some.ahead.state.state) c.args.progress.now c.open_ahead.new.progress c.visit.new.progress on.fewer
           (grown_on (g.B.RowBound.value c.args.task.now.bound.now) c.args.task.now.pins.now c.args.task.now.limit c.args.task.now.kinds.now c.args.task.now.gaps c.args.task.now.budget (columns_left c.args.task.now.kinds.now c.args.at.now.state) c.args.progress.now c.loop-next.progress c.open_ahead.new.progress c.loop-next.invariant.0 c.in-Ok.ensures.grown) c.in-Ok-visit.ensures.grown,
       All-more (WaysFail (g.B.RowBound.value c.args.task.now.bound.now) c.args.task.now.pins.now c.args.task.now.limit c.args.task.now.kinds.now c.visit.new.progress.lemmas c.args.at.now.state c.args.allowed c.args.ways.now) c.args.task.now.candidates.now c.loop-next.next-index blank c.loop-next-test.true
           (ways_fail_more (g.B.RowBound.value c.args.task.now.bound.now) c.args.task.now.pins.now c.args.task.now.limit c.args.task.now.kinds.now c.open_ahead.new.progress.lemmas c.visit.new.progress.lemmas c.in-Ok-visit.ensures.grown.more c.args.at.now.state c.args.allowed c.args.ways.now (take c.loop-next.next-index c.args.task.now.candidates.now) c.in-Ok-visit.ensures.grown.is

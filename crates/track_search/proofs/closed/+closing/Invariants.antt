@@ -1,15 +1,18 @@
-use Rattle.std.proofs.Common.{[], ◌∷◌, All, take}
+use Rattle.std.proofs.Common.{[], ◌∷◌, ◌+◌, ◌*◌, All, take}
 use Rattle.row_state.specs.Start.{columns_left}
 use Rattle.lemma_check.specs.Noted.{AreNoted}
 use Rattle.track_search.specs.Visit.{IsGrown}
 use Rattle.track_search.proofs.Grown.{WaysFail}
-use Rattle.track_search.proofs.closed.+closes.Given as goal
+use Rattle.track_search.proofs.closed.+closing.Given as goal
 
 abbrev pub decreases-closes : goal.decreases-closes
-decreases-closes g l = columns_left l.task.now.kinds.now l.at.now.state
+decreases-closes g l = 2 * columns_left l.task.now.kinds.now l.at.now.state + 1
 
-abbrev pub invariant-loop-next : goal.invariant-loop-next
-invariant-loop-next g l =
+abbrev pub decreases-open_ahead : goal.decreases-open_ahead
+decreases-open_ahead g l = 2 * columns_left l.task.now.kinds.now l.at.now.state
+
+abbrev pub invariant-closes-loop-next : goal.invariant-closes-loop-next
+invariant-closes-loop-next g l =
     IsGrown (g.B.RowBound.value l.task.bound.now) l.task.pins.now l.task.limit l.task.kinds.now l.task.gaps l.task.budget (columns_left l.task.kinds.now l.at.state) l.fn.progress l.progress
     × All (WaysFail (g.B.RowBound.value l.task.bound.now) l.task.pins.now l.task.limit l.task.kinds.now l.progress.lemmas l.at.state l.allowed ([] ∷ [])) (take l.next-index l.next-items)
     × AreNoted (g.B.RowBound.trails_of l.task.bound.now) l.task.kinds.now l.trails
