@@ -1,4 +1,3 @@
-mod Halves
 mod HasPlaces
 mod Inverter
 mod Spread

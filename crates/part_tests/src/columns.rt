@@ -40,24 +40,6 @@ pub fn both(gate: u32, p: (u32, u32), n: (u32, u32)) -> Column
     }
 }
 
-pub fn p_alone(gate: u32, p: (u32, u32)) -> Column
-    ensures { IsColumn result }
-{
-    Column {
-        p: Some(standing(Row::P, gate, p.0, p.1)),
-        n: None,
-    }
-}
-
-pub fn n_alone(gate: u32, n: (u32, u32)) -> Column
-    ensures { IsColumn result }
-{
-    Column {
-        p: None,
-        n: Some(standing(Row::N, gate, n.0, n.1)),
-    }
-}
-
 pub fn placed(alloc: Global, columns: &[Column]) -> Result<Placement, NoMemory>
     requires columns { All IsColumn columns.now }
     requires few { length columns.now ≤ MOST_COLUMNS }

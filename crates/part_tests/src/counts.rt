@@ -1,8 +1,9 @@
 // Drawings as large as the extractor takes them, and one larger.
 use crate::drawings::{add_label, no_shapes};
-use crate::nets::{Refusal, is_refusal, netlist};
+use crate::nets::netlist;
 use box_geom::{LabelList, Layer, Rect, Shape, ShapeList, Shapes};
 use cell_num::NoMemory;
+use net_extract::ExtractFault;
 use std::alloc::Global;
 use std::test::Fail;
 
@@ -46,69 +47,88 @@ fn add_labels(alloc: Global, labels: &mut LabelList, count: u32) -> Result<(), N
     Ok(())
 }
 
-// Whether a drawing has this number of nets and no device, or is refused.
-fn counts(alloc: Global, shapes: &Shapes, nets: usize) -> bool {
-    match netlist(alloc, shapes) {
-        Ok(netlist) => [netlist.names.len(), netlist.devices.len()] == [nets, 0],
-        Err(_) => false,
-    }
+// Bars of a layer, wells over them, labels on the lowest bar, and the number of nets, or of what is too many.
+struct Case {
+    layer: Layer,
+    bars: i16,
+    wells: i16,
+    labels: u32,
+    want: Result<usize, u64>,
 }
 
-fn refuses(alloc: Global, shapes: &Shapes, most: u64) -> bool {
-    match netlist(alloc, shapes) {
-        Ok(_) => false,
-        Err(fault) => is_refusal(&fault, &Refusal::TooMany(most)),
-    }
+fn add_all(alloc: Global, shapes: &mut Shapes, case: &Case) -> Result<(), Fail> {
+    add_bars(&mut shapes.rects, case.layer, case.bars)?;
+    add_wells(&mut shapes.rects, case.wells)?;
+    Ok(add_labels(alloc, &mut shapes.labels, case.labels)?)
 }
 
-fn add_all(alloc: Global, shapes: &mut Shapes, bars: i16, count: u32) -> Result<(), Fail> {
-    add_bars(&mut shapes.rects, Layer::Metal1, bars)?;
-    Ok(add_labels(alloc, &mut shapes.labels, count)?)
-}
-
-// Bars of metal1 with labels.
-fn barred(alloc: Global, bars: i16, count: u32) -> Result<Shapes, Fail> {
+fn drawn(alloc: Global, case: &Case) -> Result<Shapes, Fail> {
     let mut shapes = no_shapes(alloc);
-    add_all(alloc, &mut shapes, bars, count)?;
+    add_all(alloc, &mut shapes, case)?;
     Ok(shapes)
 }
+
+// Whether a drawing has this number of nets and no device, or is refused.
+fn counts(alloc: Global, shapes: &Shapes, want: &Result<usize, u64>) -> bool {
+    match (netlist(alloc, shapes), want) {
+        (Ok(netlist), Ok(nets)) => [netlist.names.len(), netlist.devices.len()] == [*nets, 0],
+        (Err(ExtractFault::TooMany { count }), Err(most)) => count == *most,
+        _ => false,
+    }
+}
+
+fn is_counted(alloc: Global, case: &Case) -> Result<bool, Fail> {
+    let shapes = drawn(alloc, case)?;
+    let is = counts(alloc, &shapes, &case.want);
+    drop(shapes);
+    Ok(is)
+}
+
+// At last each of 9,970 bars of active lies in 30 wells and in 31 places outside. To look at each pair of the 608,170
+// pieces would take minutes. `rt try` may want `--seconds 400` for it.
+const CASES: [Case; 5] = [
+    Case {
+        layer: Layer::Metal1,
+        bars: 2001,
+        wells: 0,
+        labels: 2000,
+        want: Ok(2001),
+    },
+    Case {
+        layer: Layer::Metal1,
+        bars: 10_000,
+        wells: 0,
+        labels: 0,
+        want: Ok(10_000),
+    },
+    Case {
+        layer: Layer::Metal1,
+        bars: 10_000,
+        wells: 0,
+        labels: 2001,
+        want: Err(2001),
+    },
+    Case {
+        layer: Layer::Metal1,
+        bars: 10_001,
+        wells: 0,
+        labels: 2001,
+        want: Err(10_001),
+    },
+    Case {
+        layer: Layer::Active,
+        bars: 9970,
+        wells: 30,
+        labels: 0,
+        want: Ok(608_170),
+    },
+];
 
 #[test]
 fn takes_so_many(rt: HostRuntime) -> Result<(), Fail> {
-    let alloc = rt.alloc();
-    for (bars, count, nets) in &[(2001, 2000, 2001), (10_000, 0, 10_000)] {
-        let shapes = barred(alloc, *bars, *count)?;
-        let is = counts(alloc, &shapes, *nets);
-        drop(shapes);
-        assert!(rt; is, "{bars} {count}");
+    for case in &CASES {
+        let bars = case.bars;
+        assert!(rt; is_counted(rt.alloc(), case)?, "{bars}");
     }
-    for (bars, count, most) in &[(10_000, 2001, 2001), (10_001, 2001, 10_001)] {
-        let shapes = barred(alloc, *bars, *count)?;
-        let is = refuses(alloc, &shapes, *most);
-        drop(shapes);
-        assert!(rt; is, "{bars} {count}");
-    }
-    Ok(())
-}
-
-fn add_crossings(rects: &mut ShapeList) -> Result<(), Fail> {
-    add_bars(rects, Layer::Active, 9970)?;
-    add_wells(rects, 30)
-}
-
-fn crossings(alloc: Global) -> Result<Shapes, Fail> {
-    let mut shapes = no_shapes(alloc);
-    add_crossings(&mut shapes.rects)?;
-    Ok(shapes)
-}
-
-// Each of 9,970 bars of active lies in 30 wells and in 31 places outside. To look at each pair of the 608,170 pieces
-// would take minutes. `rt try` may want `--seconds 400` for it.
-#[test]
-fn takes_many_pieces(rt: HostRuntime) -> Result<(), Fail> {
-    let shapes = crossings(rt.alloc())?;
-    let is = counts(rt.alloc(), &shapes, 608_170);
-    drop(shapes);
-    assert!(rt; is);
     Ok(())
 }

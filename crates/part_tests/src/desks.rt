@@ -1,8 +1,8 @@
-// Desks in memory and the desk of the system. Each helper makes one call and has no clause, which keeps what desks
+// A desk that counts and the desk of the system. Each helper makes one call and has no clause, which keeps what desks
 // promise out of the tests.
 use cell_io::{
-    CallList, Desk, DeskAnswer, File, FileList, HostDesk, MemDesk, ReadFault, SteadyDesk,
-    WriteFault, append_all, read_all, read_memory, say_all, write_all,
+    Desk, DeskAnswer, File, FileList, HostDesk, ReadFault, SteadyDesk, WriteFault, append_all,
+    read_all, read_memory, say_all, write_all,
 };
 use cell_num::{Bytes, List, NoMemory};
 use std::alloc::{AllocError, Global};
@@ -51,29 +51,6 @@ fn writes<D: Desk>(desk: &mut D, name: &str, bytes: &[u8]) -> bool {
 
 fn says<D: Desk>(desk: &mut D, bytes: &[u8]) -> bool {
     say_all(desk, bytes) == Ok(())
-}
-
-fn holds(desk: &MemDesk, name: &str, file: &[u8], said: &[u8]) -> bool {
-    desk.file(name) == Some(file) && desk.all_said() == said
-}
-
-// A desk with one file, whose first call fails.
-fn failing_desk(alloc: Global) -> Result<MemDesk, NoMemory> {
-    let mut fail = CallList::new(alloc);
-    fail.push(0)?;
-    Ok(MemDesk::new(alloc, one_file(alloc)?, fail))
-}
-
-#[test]
-fn reads_and_writes_in_memory(rt: HostRuntime) -> Result<(), Fail> {
-    let alloc = rt.alloc();
-    let mut desk = failing_desk(alloc)?;
-    assert!(rt; refuses(alloc, &mut desk, "in", ReadFault::Failed));
-    assert!(rt; reads(alloc, &mut desk, "in", 5, b"abcde"));
-    assert!(rt; writes(&mut desk, "out", b"ab"));
-    assert!(rt; says(&mut desk, b"said"));
-    assert!(rt; holds(&desk, "out", b"ab", b"said"));
-    Ok(())
 }
 
 fn has_counted(desk: &mut SteadyDesk) -> bool {

@@ -1,118 +1,34 @@
-// Boundaries and paths with any points, and what they draw.
-ghost use Rattle.std.specs.Prelude.{◌≤◌};
-
-use crate::drawings::Sides;
-use crate::libraries::{HEAD, TAIL, is_refused, shows};
-use box_geom::Layer;
-use std::alloc::{AllocError, Global};
+// Boundaries and paths with any points, and what they draw; the faults of a library.
+use crate::libraries::{
+    Around, END_OF_ELEMENT, END_OF_LIBRARY, END_OF_STRUCTURE, INV, LIBRARY, Part, STRUCTURE,
+    is_read, is_told, library,
+};
+use std::alloc::Global;
 use std::test::Fail;
 
-const BOUNDARY: u8 = 8;
+const AROUND: Around = Around {
+    name: b"inv",
+    front: &[LIBRARY, STRUCTURE, INV],
+    end: &[END_OF_STRUCTURE, END_OF_LIBRARY],
+};
 
-const PATH: u8 = 9;
+const BOUNDARY: Part = Part::Record(8, 0, &[]);
 
-pub fn put_record(out: &mut Vec<u8>, code: u8, form: u8, content: &[u8]) -> Result<(), Fail> {
-    if content.len() > 65_000 {
-        return Err(Fail::from("a long record"));
-    }
-    let size = content.len() as u16 + 4;
-    out.extend_from_slice(&size.to_be_bytes())?;
-    out.push(code)?;
-    out.push(form)?;
-    out.extend_from_slice(content)?;
-    Ok(())
-}
+const PATH: Part = Part::Record(9, 0, &[]);
 
-/// The points of an element.
-pub fn put_points(out: &mut Vec<u8>, points: &[[i32; 2]]) -> Result<(), Fail> {
-    if points.len() > 8000 {
-        return Err(Fail::from("many points"));
-    }
-    let size = 8 * points.len() as u16 + 4;
-    out.extend_from_slice(&size.to_be_bytes())?;
-    out.extend_from_slice(&[0x10, 3])?;
-    for point in points {
-        out.extend_from_slice(&point[0].to_be_bytes())?;
-        out.extend_from_slice(&point[1].to_be_bytes())?;
-    }
-    Ok(())
-}
+// Metal1, with a data type that is not read.
+const METAL1: Part = Part::Bytes(&[0, 6, 0x0d, 2, 0, 49, 0, 6, 0x0e, 2, 0, 7]);
 
-// An element on metal1, the form of its ends and its width.
-#[derive(Clone, Copy)]
-struct Element<'a> {
-    kind: u8,
-    points: &'a [[i32; 2]],
-    width: Option<i32>,
-    form: Option<u8>,
-}
-
-fn boundary(points: &[[i32; 2]]) -> Element {
-    Element {
-        kind: BOUNDARY,
-        points,
-        width: None,
-        form: None,
-    }
-}
-
-fn path(points: &[[i32; 2]], width: i32, form: u8) -> Element {
-    Element {
-        kind: PATH,
-        points,
-        width: Some(width),
-        form: Some(form),
-    }
-}
-
-fn put_element(out: &mut Vec<u8>, element: &Element) -> Result<(), Fail> {
-    put_record(out, element.kind, 0, &[])?;
-    put_record(out, 0x0d, 2, &[0, 49])?;
-    put_record(out, 0x0e, 2, &[0, 7])?;
-    if let Some(form) = element.form {
-        put_record(out, 0x21, 2, &[0, form])?;
-    }
-    if let Some(width) = element.width {
-        put_record(out, 0x0f, 3, &width.to_be_bytes())?;
-    }
-    put_points(out, element.points)?;
-    put_record(out, 0x11, 0, &[])
-}
-
-fn put_library(out: &mut Vec<u8>, element: &Element) -> Result<(), Fail> {
-    out.extend_from_slice(&HEAD)?;
-    put_element(out, element)?;
-    Ok(out.extend_from_slice(&TAIL)?)
-}
-
-fn library(alloc: Global, element: &Element) -> Result<Vec<u8>, Fail> {
-    let mut out = Vec::new(alloc);
-    put_library(&mut out, element)?;
-    Ok(out)
-}
-
-// Whether an element draws these rectangles, in grid units of half a lambda.
-fn draws(
-    alloc: Global,
-    element: &Element,
-    lambda_nm: u32,
-    rects: &[(Layer, Sides)],
-) -> Result<bool, Fail>
-    requires { 1 ≤ lambda_nm }
-{
-    let bytes = library(alloc, element)?;
-    let is = shows(alloc, &bytes, b"inv", lambda_nm, rects);
-    drop(bytes);
-    Ok(is)
-}
-
-// Whether an element has this fault, with two nanometres to a lambda.
-fn refuses(alloc: Global, element: &Element, fault: &str) -> Result<bool, Fail> {
-    let bytes = library(alloc, element)?;
-    let is = is_refused(alloc, &bytes, b"inv", 2, fault);
-    drop(bytes);
-    is
-}
+// The bytes of a well from (-1500, 9300) to (8100, 17700) nanometres and of the label `a` at (3300, 8100).
+const BYTES: [u8; 102] = [
+    0x00, 0x04, 0x08, 0x00, 0x00, 0x06, 0x0d, 0x02, 0x00, 0x2a, 0x00, 0x06, 0x0e, 0x02, 0x00, 0x00,
+    0x00, 0x2c, 0x10, 0x03, 0xff, 0xff, 0xfa, 0x24, 0x00, 0x00, 0x24, 0x54, 0xff, 0xff, 0xfa, 0x24,
+    0x00, 0x00, 0x45, 0x24, 0x00, 0x00, 0x1f, 0xa4, 0x00, 0x00, 0x45, 0x24, 0x00, 0x00, 0x1f, 0xa4,
+    0x00, 0x00, 0x24, 0x54, 0xff, 0xff, 0xfa, 0x24, 0x00, 0x00, 0x24, 0x54, 0x00, 0x04, 0x11, 0x00,
+    0x00, 0x04, 0x0c, 0x00, 0x00, 0x06, 0x0d, 0x02, 0x00, 0x31, 0x00, 0x06, 0x16, 0x02, 0x00, 0x00,
+    0x00, 0x0c, 0x10, 0x03, 0x00, 0x00, 0x0c, 0xe4, 0x00, 0x00, 0x1f, 0xa4, 0x00, 0x06, 0x19, 0x06,
+    0x61, 0x00, 0x00, 0x04, 0x11, 0x00,
+];
 
 // A frame: its two walks are joined by a side that is passed twice.
 const RING: [[i32; 2]; 10] = [
@@ -128,58 +44,136 @@ const RING: [[i32; 2]; 10] = [
     [6, 0],
 ];
 
-const RING_RECTS: [(Layer, Sides); 4] = [
-    (Layer::Metal1, [0, 0, 6, 2]),
-    (Layer::Metal1, [0, 2, 2, 4]),
-    (Layer::Metal1, [4, 2, 6, 4]),
-    (Layer::Metal1, [0, 4, 6, 6]),
+const RING_READ: &str = "Ok(Shapes { rects: List { items: [\
+    Shape { layer: Metal1, rect: Rect { x1: 0, y1: 0, x2: 6, y2: 2 } }, \
+    Shape { layer: Metal1, rect: Rect { x1: 0, y1: 2, x2: 2, y2: 4 } }, \
+    Shape { layer: Metal1, rect: Rect { x1: 4, y1: 2, x2: 6, y2: 4 } }, \
+    Shape { layer: Metal1, rect: Rect { x1: 0, y1: 4, x2: 6, y2: 6 } }] }, labels: List { items: [] } })";
+
+const BEND_READ: &str = "Ok(Shapes { rects: List { items: [\
+    Shape { layer: Metal1, rect: Rect { x1: -2, y1: -2, x2: 12, y2: 2 } }, \
+    Shape { layer: Metal1, rect: Rect { x1: 8, y1: -2, x2: 12, y2: 12 } }] }, labels: List { items: [] } })";
+
+const ODD_READ: &str = "Ok(Shapes { rects: List { items: [\
+    Shape { layer: Metal1, rect: Rect { x1: 0, y1: -3, x2: 20, y2: 3 } }] }, labels: List { items: [] } })";
+
+const BYTES_READ: &str = "Ok(Shapes { rects: List { items: [\
+    Shape { layer: Well, rect: Rect { x1: -10, y1: 62, x2: 54, y2: 118 } }] }, \
+    labels: List { items: [Label { layer: Metal1, x: 22, y: 54, name: List { items: [97] } }] } })";
+
+// The elements of a structure, a lambda in nanometres, and what is read.
+const ELEMENTS: [(&[Part], u32, &str); 9] = [
+    (&[Part::Bytes(&BYTES)], 300, BYTES_READ),
+    (&[Part::Bytes(&BYTES)], 280, "Err(Grid { at: 118 })"),
+    (
+        &[BOUNDARY, METAL1, Part::Points(&RING), END_OF_ELEMENT],
+        2,
+        RING_READ,
+    ),
+    (
+        &[
+            PATH,
+            METAL1,
+            Part::Record(0x21, 2, &[0, 2]),
+            Part::Record(0x0f, 3, &[0xff, 0xff, 0xff, 0xfc]),
+            Part::Points(&[[0, 0], [10, 0], [10, 10]]),
+            END_OF_ELEMENT,
+        ],
+        2,
+        BEND_READ,
+    ),
+    (
+        &[
+            PATH,
+            METAL1,
+            Part::Record(0x21, 2, &[0, 0]),
+            Part::Record(0x0f, 3, &[0, 0, 0, 3]),
+            Part::Points(&[[0, 0], [10, 0]]),
+            END_OF_ELEMENT,
+        ],
+        1,
+        ODD_READ,
+    ),
+    (
+        &[
+            BOUNDARY,
+            METAL1,
+            Part::Points(&[[0, 0], [0, 4], [2, 4]]),
+            END_OF_ELEMENT,
+        ],
+        2,
+        "Err(Slant { at: 118 })",
+    ),
+    (
+        &[
+            PATH,
+            METAL1,
+            Part::Record(0x21, 2, &[0, 1]),
+            Part::Record(0x0f, 3, &[0, 0, 0, 2]),
+            Part::Points(&[[0, 0], [3, 4]]),
+            END_OF_ELEMENT,
+        ],
+        2,
+        "Err(Kind { at: 118, code: 33 })",
+    ),
+    (
+        &[
+            PATH,
+            METAL1,
+            Part::Record(0x21, 2, &[0, 2]),
+            Part::Record(0x0f, 3, &[0x80, 0, 0, 0]),
+            Part::Points(&[[0, 0], [i32::MAX, 0]]),
+            END_OF_ELEMENT,
+        ],
+        2,
+        "Err(Grid { at: 132 })",
+    ),
+    // The structure and its end a second time.
+    (
+        &[END_OF_STRUCTURE, STRUCTURE, INV],
+        300,
+        "Err(Twice { name: List { items: [105, 110, 118] } })",
+    ),
 ];
 
-const BEND_RECTS: [(Layer, Sides); 2] = [
-    (Layer::Metal1, [-2, -2, 12, 2]),
-    (Layer::Metal1, [8, -2, 12, 12]),
-];
-
-const BEND: [[i32; 2]; 3] = [[0, 0], [10, 0], [10, 10]];
-
 #[test]
-fn boundaries_and_paths(rt: HostRuntime) -> Result<(), Fail> {
-    let alloc = rt.alloc();
-    assert!(rt; draws(alloc, &boundary(&RING), 2, &RING_RECTS)?);
-    assert!(rt; draws(alloc, &path(&BEND, -4, 2), 2, &BEND_RECTS)?);
-    let odd = [(Layer::Metal1, [0, -3, 20, 3])];
-    assert!(rt; draws(alloc, &path(&[[0, 0], [10, 0]], 3, 0), 1, &odd)?);
-    Ok(())
-}
-
-#[test]
-fn refused_elements(rt: HostRuntime) -> Result<(), Fail> {
-    let alloc = rt.alloc();
-    let slant = [[0, 0], [0, 4], [2, 4]];
-    assert!(rt; refuses(alloc, &boundary(&slant), "Slant { at: 118 }")?);
-    let round = path(&[[0, 0], [3, 4]], 2, 1);
-    assert!(rt; refuses(alloc, &round, "Kind { at: 118, code: 33 }")?);
-    let wide = path(&[[0, 0], [i32::MAX, 0]], i32::MIN, 2);
-    assert!(rt; refuses(alloc, &wide, "Grid { at: 132 }")?);
-    Ok(())
-}
-
-// A comb whose teeth grow by one: n teeth have n (n + 1) / 2 runs.
-fn add_teeth(points: &mut Vec<[i32; 2]>, teeth: u16) -> Result<(), AllocError> {
-    for tooth in 0..teeth {
-        let x = 2 * i32::from(tooth);
-        let y = i32::from(tooth) + 1;
-        points.extend_from_slice(&[[x, 0], [x, y], [x + 1, y], [x + 1, 0]])?;
+fn reads_elements(rt: HostRuntime) -> Result<(), Fail> {
+    for (elements, lambda_nm, want) in &ELEMENTS {
+        assert!(rt;
+            is_told(rt.alloc(), &AROUND, elements, *lambda_nm, want)?,
+            "{want}"
+        );
     }
     Ok(())
 }
 
+// Whether this is printed of the front of the library of the well and the label with one byte changed.
+fn is_changed(alloc: Global, at: usize, value: u8, len: usize, want: &str) -> Result<bool, Fail> {
+    let mut bytes = library(alloc, &AROUND, &[Part::Bytes(&BYTES)])?;
+    if let Some(byte) = bytes.get_mut(at) {
+        *byte = value;
+    }
+    let is = is_read(alloc, bytes.get(..len).unwrap_or(&[]), b"inv", 300, want);
+    drop(bytes);
+    Ok(is?)
+}
+
+// A place, the byte there, how many bytes there are, and the fault.
+const CHANGED: [(usize, u8, usize, &str); 8] = [
+    (58, 0xb9, 212, "Err(Unit { picometres: 0 })"),
+    (99, 0x6d, 212, "Err(NoCell)"),
+    (104, 0x11, 212, "Err(Order { at: 102, code: 17 })"),
+    (104, 0x0b, 212, "Err(Reference { at: 102 })"),
+    (105, 2, 212, "Err(Kind { at: 102, code: 8 })"),
+    (107, 7, 212, "Err(Length { at: 106 })"),
+    (210, 1, 212, "Err(Order { at: 208, code: 1 })"),
+    (0, 0, 210, "Err(Cut { at: 208 })"),
+];
+
 #[test]
-fn too_many_rectangles(rt: HostRuntime) -> Result<(), Fail> {
-    let mut comb = Vec::new(rt.alloc());
-    add_teeth(&mut comb, 1414)?;
-    let is = refuses(rt.alloc(), &boundary(&comb), "Wide { at: 102 }");
-    drop(comb);
-    assert!(rt; is?);
+fn refuses_changed_bytes(rt: HostRuntime) -> Result<(), Fail> {
+    for (at, value, len, want) in &CHANGED {
+        assert!(rt; is_changed(rt.alloc(), *at, *value, *len, want)?, "{want}");
+    }
     Ok(())
 }

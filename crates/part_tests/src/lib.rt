@@ -2,21 +2,11 @@
 #![tactic(auto)]
 
 #[cfg(test)]
-mod abstracts;
-#[cfg(test)]
-mod agreements;
-#[cfg(test)]
 mod bases;
-#[cfg(test)]
-mod bodies;
-#[cfg(test)]
-mod cells;
 #[cfg(test)]
 mod chains;
 #[cfg(test)]
 mod channels;
-#[cfg(test)]
-mod checks;
 #[cfg(test)]
 mod columns;
 #[cfg(test)]
@@ -28,13 +18,7 @@ mod drawings;
 #[cfg(test)]
 mod elements;
 #[cfg(test)]
-mod folding;
-#[cfg(test)]
-mod gaps;
-#[cfg(test)]
 mod geometry;
-#[cfg(test)]
-mod half_columns;
 #[cfg(test)]
 mod inverters;
 #[cfg(test)]
@@ -48,13 +32,13 @@ mod macros;
 #[cfg(test)]
 mod nets;
 #[cfg(test)]
+mod numbers;
+#[cfg(test)]
 mod piece_drawings;
 #[cfg(test)]
 mod pieces;
 #[cfg(test)]
 mod pin_places;
-#[cfg(test)]
-mod places;
 #[cfg(test)]
 mod records;
 #[cfg(test)]
@@ -66,16 +50,6 @@ mod rules;
 #[cfg(test)]
 mod searches;
 #[cfg(test)]
-mod spice_texts;
-#[cfg(test)]
-mod subcircuits;
-#[cfg(test)]
-mod taps;
-#[cfg(test)]
-mod technologies;
-#[cfg(test)]
 mod texts;
 #[cfg(test)]
 mod track_lemmas;
-#[cfg(test)]
-mod track_texts;

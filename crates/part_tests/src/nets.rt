@@ -1,12 +1,14 @@
+// Nets, devices and bodies of drawings, and why a drawing has none.
 use crate::drawings::{Sides, add_label, shapes_of};
-use box_geom::{Block, LabelList, Layer, Shapes};
-use cell_num::{Name, NoMemory, Row};
-use net_extract::{Drawn, ExtractFault, NetMap, Netlist, extract};
-use std::alloc::Global;
+use crate::texts::prints;
+use box_geom::{LabelList, Layer, Shapes};
+use cell_num::NoMemory;
+use net_extract::{BodyNetlist, ExtractFault, Netlist, extract, extract_bodies};
+use std::alloc::{AllocError, Global};
 use std::test::Fail;
 
-/// A label of one letter at a place.
-pub type Letter = (u8, Layer, i32, i32);
+// A label of one letter at a place.
+type Letter = (u8, Layer, i32, i32);
 
 fn add_labels(alloc: Global, labels: &mut LabelList, letters: &[Letter]) -> Result<(), NoMemory> {
     for (letter, layer, x, y) in letters {
@@ -15,11 +17,7 @@ fn add_labels(alloc: Global, labels: &mut LabelList, letters: &[Letter]) -> Resu
     Ok(())
 }
 
-pub fn drawing(
-    alloc: Global,
-    table: &[(Layer, Sides)],
-    letters: &[Letter],
-) -> Result<Shapes, Fail> {
+fn drawing(alloc: Global, table: &[(Layer, Sides)], letters: &[Letter]) -> Result<Shapes, Fail> {
     let mut shapes = shapes_of(alloc, table)?;
     add_labels(alloc, &mut shapes.labels, letters)?;
     Ok(shapes)
@@ -45,173 +43,26 @@ const INVERTER: [(Layer, Sides); 16] = [
     (Layer::PSelect, [0, 22, 24, 40]),
 ];
 
-fn are_names(names: &[Name], want: &[&[u8]]) -> bool {
-    names.len() == want.len()
-        && names
-            .iter()
-            .zip(want.iter())
-            .all(|(name, want)| name.as_slice() == *want)
-}
-
 // It has no clauses, so that those of `extract` stay out of the tests' proofs.
 pub fn netlist(alloc: Global, shapes: &Shapes) -> Result<Netlist, ExtractFault> {
     extract(alloc, shapes)
 }
 
-const LOWER: Drawn = Drawn {
-    row: Row::N,
-    gate: 0,
-    lo: 1,
-    hi: 2,
-    width: 10,
-    length: 4,
-};
-
-const UPPER: Drawn = Drawn {
-    row: Row::P,
-    gate: 0,
-    lo: 2,
-    hi: 3,
-    width: 14,
-    length: 4,
-};
-
-fn is_inverter(alloc: Global, shapes: &Shapes) -> bool {
-    match netlist(alloc, shapes) {
-        Err(_) => false,
-        Ok(netlist) => {
-            are_names(netlist.names.as_slice(), &[b"_0", b"g", b"y", b"v"])
-                && netlist.devices.as_slice() == [LOWER, UPPER].as_slice()
-        }
-    }
+fn prints_netlist(alloc: Global, shapes: &Shapes, want: &str) -> Result<bool, AllocError> {
+    prints(alloc, &netlist(alloc, shapes), want)
 }
 
-const NAMED: [Letter; 3] = [
-    (b'v', Layer::Metal1, 3, 25),
-    (b'y', Layer::Metal2, 15, 3),
-    (b'g', Layer::Metal1, 3, 3),
-];
-
-// The drawing of an inverter: its two devices between four nets, of which the gate has no label.
-#[test]
-fn an_inverter(rt: HostRuntime) -> Result<(), Fail> {
-    let shapes = drawing(rt.alloc(), &INVERTER, &NAMED)?;
-    let is = is_inverter(rt.alloc(), &shapes);
-    drop(shapes);
-    assert!(rt; is);
-    Ok(())
-}
-
-fn has_net(map: &NetMap, layer: Layer, [x, y]: [i32; 2], want: Option<u32>) -> bool {
-    map.net_of(layer, x, y) == want
-}
-
-fn names_net(map: &NetMap, name: &[u8], want: Option<u32>) -> bool {
-    map.net_named(name) == want
-}
-
-fn is_named(map: &NetMap, layer: Layer, [x, y]: [i32; 2], want: &[u8]) -> bool {
-    match map.net_of(layer, x, y) {
-        Some(net) => map.name(net).as_slice() == want,
-        None => false,
-    }
-}
-
-// By cells, by labels and by numbers. A name that is no label is not found.
-fn has_nets(map: &NetMap) -> bool {
-    has_net(map, Layer::Metal2, [20, 30], Some(2))
-        && has_net(map, Layer::Metal2, [21, 30], None)
-        && has_net(map, Layer::Active, [2, 24], Some(3))
-        && names_net(map, b"g", Some(1))
-        && names_net(map, b"_0", None)
-        && is_named(map, Layer::Poly, [10, 0], b"_0")
-}
-
-const BLOCKS: [Block; 2] = [
-    Block {
-        x1: 15,
-        y1: 3,
-        x2: 21,
-        y2: 9,
-    },
-    Block {
-        x1: 15,
-        y1: 25,
-        x2: 21,
-        y2: 31,
-    },
-];
-
-fn has_pieces(alloc: Global, map: &NetMap) -> bool {
-    match map.pieces(alloc, 2, Layer::Metal1) {
-        Ok(pieces) => pieces.as_slice() == BLOCKS.as_slice(),
-        Err(_) => false,
-    }
-}
-
-fn is_mapped(alloc: Global, shapes: &Shapes) -> bool {
-    match NetMap::new(alloc, shapes) {
-        Ok(map) => has_nets(&map) && has_pieces(alloc, &map),
-        Err(_) => false,
-    }
-}
-
-const TWICE: [Letter; 3] = [
-    (b'y', Layer::Metal2, 15, 3),
-    (b'g', Layer::Metal1, 3, 3),
-    (b'y', Layer::Metal1, 21, 9),
-];
-
-// The nets of the same inverter.
-#[test]
-fn nets_of_an_inverter(rt: HostRuntime) -> Result<(), Fail> {
-    let shapes = drawing(rt.alloc(), &INVERTER, &TWICE)?;
-    let is = is_mapped(rt.alloc(), &shapes);
-    drop(shapes);
-    assert!(rt; is);
-    Ok(())
-}
-
-/// Why a drawing has no netlist.
-#[derive(Clone, Copy)]
-pub enum Refusal<'a> {
-    TooMany(u64),
-    OddDevice([i32; 2]),
-    Stray(&'a [u8]),
-    Short(&'a [u8], &'a [u8]),
-    Split(&'a [u8]),
-}
-
-pub fn is_refusal(fault: &ExtractFault, want: &Refusal) -> bool {
-    match (fault, want) {
-        (ExtractFault::TooMany { count }, Refusal::TooMany(want)) => count == want,
-        (ExtractFault::OddDevice { x, y }, Refusal::OddDevice(want)) => [*x, *y] == *want,
-        (ExtractFault::Stray { name }, Refusal::Stray(want)) => name.as_slice() == *want,
-        (ExtractFault::Short { one, other }, Refusal::Short(first, second)) => {
-            one.as_slice() == *first && other.as_slice() == *second
-        }
-        (ExtractFault::Split { name }, Refusal::Split(want)) => name.as_slice() == *want,
-        _ => false,
-    }
-}
-
-fn is_refused(alloc: Global, shapes: &Shapes, want: &Refusal) -> bool {
-    match netlist(alloc, shapes) {
-        Ok(_) => false,
-        Err(fault) => is_refusal(&fault, want),
-    }
-}
-
-fn refuses(
+// Whether this is printed of the netlist of a drawing.
+fn is_told(
     alloc: Global,
     table: &[(Layer, Sides)],
     letters: &[Letter],
-    want: &Refusal,
+    want: &str,
 ) -> Result<bool, Fail> {
     let shapes = drawing(alloc, table, letters)?;
-    let is = is_refused(alloc, &shapes, want);
+    let is = prints_netlist(alloc, &shapes, want);
     drop(shapes);
-    Ok(is)
+    Ok(is?)
 }
 
 // A gate with an end on diffusion.
@@ -220,30 +71,123 @@ const ODD: [(Layer, Sides); 2] = [
     (Layer::Poly, [4, 2, 8, 12]),
 ];
 
-// One label in two nets, two labels in one, a label off the conductor, and a gate that is no device.
-const REFUSED: [(&[(Layer, Sides)], &[Letter], Refusal); 4] = [
+// The two devices of an inverter between the nets `_0`, `g`, `y` and `v`: the gate has no label.
+const INVERTER_NETS: &str =
+    "Ok(Netlist { names: List { items: [List { items: [95, 48] }, List { items: [103] }, \
+    List { items: [121] }, List { items: [118] }] }, devices: List { items: [\
+    Drawn { row: N, gate: 0, lo: 1, hi: 2, width: 10, length: 4 }, \
+    Drawn { row: P, gate: 0, lo: 2, hi: 3, width: 14, length: 4 }] } })";
+
+// An inverter; then one label in two nets, two labels in one, a label off the conductor, and a gate that is no device.
+const DRAWINGS: [(&[(Layer, Sides)], &[Letter], &str); 5] = [
+    (
+        &INVERTER,
+        &[
+            (b'v', Layer::Metal1, 3, 25),
+            (b'y', Layer::Metal2, 15, 3),
+            (b'g', Layer::Metal1, 3, 3),
+        ],
+        INVERTER_NETS,
+    ),
     (
         &INVERTER,
         &[(b'a', Layer::Metal1, 15, 3), (b'a', Layer::Poly, 10, 0)],
-        Refusal::Split(b"a"),
+        "Err(Split { name: List { items: [97] } })",
     ),
     (
         &INVERTER,
         &[(b'y', Layer::Metal1, 15, 3), (b'q', Layer::Metal1, 15, 25)],
-        Refusal::Short(b"y", b"q"),
+        "Err(Short { one: List { items: [121] }, other: List { items: [113] } })",
     ),
     (
         &INVERTER,
         &[(b's', Layer::Metal1, 60, 54)],
-        Refusal::Stray(b"s"),
+        "Err(Stray { name: List { items: [115] } })",
     ),
-    (&ODD, &[], Refusal::OddDevice([4, 2])),
+    (&ODD, &[], "Err(OddDevice { x: 4, y: 2 })"),
 ];
 
 #[test]
-fn refused_drawings(rt: HostRuntime) -> Result<(), Fail> {
-    for (table, letters, want) in &REFUSED {
-        assert!(rt; refuses(rt.alloc(), table, letters, want)?);
+fn extracts_drawings(rt: HostRuntime) -> Result<(), Fail> {
+    for (table, letters, want) in &DRAWINGS {
+        assert!(rt; is_told(rt.alloc(), table, letters, want)?, "{want}");
     }
+    Ok(())
+}
+
+// Two P devices, each in a well of its own with a tap beside it, and two N devices with a tap of the substrate each.
+const TAPPED: [(Layer, Sides); 18] = [
+    (Layer::Active, [0, 0, 30, 10]),
+    (Layer::Poly, [10, -4, 14, 14]),
+    (Layer::Well, [-12, -12, 70, 22]),
+    (Layer::Active, [44, 0, 54, 10]),
+    (Layer::NSelect, [40, -4, 58, 14]),
+    (Layer::Active, [0, 100, 30, 110]),
+    (Layer::Poly, [10, 96, 14, 114]),
+    (Layer::Well, [-12, 88, 70, 122]),
+    (Layer::Active, [44, 100, 54, 110]),
+    (Layer::Active, [0, 200, 30, 210]),
+    (Layer::Poly, [10, 196, 14, 214]),
+    (Layer::Active, [44, 200, 54, 210]),
+    (Layer::PSelect, [40, 196, 58, 214]),
+    (Layer::Active, [0, 300, 30, 310]),
+    (Layer::Poly, [10, 296, 14, 314]),
+    (Layer::Active, [44, 300, 54, 310]),
+    (Layer::PSelect, [40, 296, 58, 314]),
+    // the select of the second well's tap
+    (Layer::NSelect, [40, 96, 58, 114]),
+];
+
+const NAMES: [Letter; 4] = [
+    (b'a', Layer::Active, 49, 5),
+    (b'b', Layer::Active, 49, 105),
+    (b'l', Layer::Active, 49, 205),
+    (b'l', Layer::Active, 49, 305),
+];
+
+// It has no clauses, so that those of `extract_bodies` stay out of the tests' proofs.
+fn body_netlist(alloc: Global, shapes: &Shapes) -> Result<BodyNetlist, ExtractFault> {
+    extract_bodies(alloc, shapes)
+}
+
+fn prints_bodies(alloc: Global, shapes: &Shapes, want: &str) -> Result<bool, AllocError> {
+    match body_netlist(alloc, shapes) {
+        Ok(netlist) => prints(alloc, &netlist.bodies, want),
+        Err(fault) => prints(alloc, &fault, want),
+    }
+}
+
+// Whether this is printed of the bodies of such a drawing, with this label on the last tap.
+fn has_bodies(
+    alloc: Global,
+    table: &[(Layer, Sides)],
+    letters: &[Letter],
+    want: &str,
+) -> Result<bool, Fail> {
+    let shapes = drawing(alloc, table, letters)?;
+    let is = prints_bodies(alloc, &shapes, want);
+    drop(shapes);
+    Ok(is?)
+}
+
+// The same labels, except the last one.
+const OTHER: [Letter; 4] = [
+    (b'a', Layer::Active, 49, 5),
+    (b'b', Layer::Active, 49, 105),
+    (b'l', Layer::Active, 49, 205),
+    (b'o', Layer::Active, 49, 305),
+];
+
+// The body of a P device is the net of its well's tap, that of an N device the one net of the substrate's taps, whose
+// labels must not differ. Without N select over it the second well's active is no tap, so its device has no body.
+#[test]
+fn bodies_of_wells_and_substrate(rt: HostRuntime) -> Result<(), Fail> {
+    let alloc = rt.alloc();
+    let all = "List { items: [Some(3), Some(7), Some(11), Some(11)] }";
+    assert!(rt; has_bodies(alloc, &TAPPED, &NAMES, all)?);
+    let one = "List { items: [Some(3), None, Some(11), Some(11)] }";
+    assert!(rt; has_bodies(alloc, &TAPPED[..17], &NAMES, one)?);
+    let short = "Short { one: List { items: [108] }, other: List { items: [111] } }";
+    assert!(rt; has_bodies(alloc, &TAPPED, &OTHER, short)?);
     Ok(())
 }

@@ -41,49 +41,88 @@ fn ends(
     Ok(told == proved && text == want)
 }
 
+const TWO: [Pair; 2] = [(0, 2, 4, 5), (1, 3, 4, 5)];
+
 // Fingers of the P row begin and end on one net.
 const RINGS: [Pair; 3] = [(0, 4, 4, 5), (1, 3, 3, 5), (2, 4, 4, 5)];
 
-#[test]
-fn finds_rows(rt: HostRuntime) -> Result<(), Fail> {
-    let alloc = rt.alloc();
-    assert!(rt; ends(alloc, 4, &INVERTER, 1, Some(0), b"open\nend\n")?);
-    assert!(rt;
-        ends(
-            alloc,
-            4,
-            &INVERTER,
-            2,
-            None,
-            b"gaps 0\ncolumn 0 0 0 0 0\nend\n"
-        )?
-    );
-    let two = [(0, 2, 4, 5), (1, 3, 4, 5)];
-    let row = b"gaps 0\ncolumn 0 0 0 0 0\ncolumn 1 1 1 1 1\nend\n";
-    assert!(rt; ends(alloc, 6, &two, 3, None, row)?);
-    let lemma = b"lemma 1 P 1,1,1 1,1,1 - -\nopen\nend\n";
-    assert!(rt; ends(alloc, 8, &INVERTERS, 4, Some(1), lemma)?);
-    let row =
-        b"lemma 1 P 1,1,1 1,1,1 - -\ngaps 1\ncolumn 0 0 0 0 0\ncolumn 1 1 0 1 0\ncolumn 2 2 1 2 1\nend\n";
-    assert!(rt; ends(alloc, 8, &INVERTERS, 5, None, row)?);
-    Ok(())
-}
+// Six inverters on nets of their own, whose rails and outputs ask for two gaps at the start.
+const SIX: [Pair; 6] = [
+    (0, 6, 12, 13),
+    (1, 7, 12, 13),
+    (2, 8, 12, 13),
+    (3, 9, 12, 13),
+    (4, 10, 12, 13),
+    (5, 11, 12, 13),
+];
 
-// A state whose bound is kept takes no node, so that the last node is left for another.
+// The number of nets, the fingers, the budget, the bound that is proved where it is spent, and the lines.
+const SEARCHES: [(u32, &[Pair], u64, Option<u32>, &[u8]); 8] = [
+    (4, &INVERTER, 1, Some(0), b"open\nend\n"),
+    (4, &INVERTER, 2, None, b"gaps 0\ncolumn 0 0 0 0 0\nend\n"),
+    (
+        6,
+        &TWO,
+        3,
+        None,
+        b"gaps 0\ncolumn 0 0 0 0 0\ncolumn 1 1 1 1 1\nend\n",
+    ),
+    (
+        8,
+        &INVERTERS,
+        4,
+        Some(1),
+        b"lemma 1 P 1,1,1 1,1,1 - -\nopen\nend\n",
+    ),
+    (
+        8,
+        &INVERTERS,
+        5,
+        None,
+        b"lemma 1 P 1,1,1 1,1,1 - -\ngaps 1\ncolumn 0 0 0 0 0\ncolumn 1 1 0 1 0\ncolumn 2 2 1 2 1\nend\n",
+    ),
+    // A state whose bound is kept takes no node, so that the last node is left for another.
+    (
+        6,
+        &RINGS,
+        8,
+        Some(1),
+        b"lemma 1 N 0,1,1 0,1,1 4 5\nlemma 1 B 0,1,0 0,1,0 4 5\nlemma 1 B 0,1,1 0,1,1 4 4\n\
+          lemma 1 B 1,0,1 1,0,1 3 5\nlemma 1 B 1,0,1 1,0,1 3 3\nlemma 1 N 1,1,0 1,1,0 4 5\n\
+          lemma 1 B 1,1,0 1,1,0 4 4\nlemma 1 B 1,1,1 1,1,1 - -\nopen\nend\n",
+    ),
+    // The row takes 15 nodes. A budget of ten is spent within the last limit.
+    (
+        14,
+        &SIX,
+        15,
+        None,
+        b"lemma 1 P 1,1,1,1,1,1 1,1,1,1,1,1 - -\nlemma 2 P 1,1,1,1,1,1 1,1,1,1,1,1 - -\n\
+          lemma 2 P 0,0,1,1,1,1 0,0,1,1,1,1 12 13\nlemma 2 P 0,0,1,1,1,1 0,0,1,1,1,1 12 7\n\
+          lemma 2 P 0,0,1,1,1,1 0,0,1,1,1,1 7 13\nlemma 1 P 0,0,0,0,1,1 0,0,0,0,1,1 12 13\n\
+          lemma 1 P 0,0,0,0,1,1 0,0,0,0,1,1 12 9\nlemma 1 P 0,0,0,0,1,1 0,0,0,0,1,1 9 13\n\
+          gaps 2\ncolumn 0 0 0 0 0\ncolumn 1 1 1 1 1\ncolumn 2 2 0 2 0\ncolumn 3 3 1 3 1\n\
+          column 4 4 0 4 0\ncolumn 5 5 1 5 1\nend\n",
+    ),
+    (
+        14,
+        &SIX,
+        10,
+        Some(2),
+        b"lemma 1 P 1,1,1,1,1,1 1,1,1,1,1,1 - -\nlemma 2 P 1,1,1,1,1,1 1,1,1,1,1,1 - -\n\
+          lemma 2 P 0,0,1,1,1,1 0,0,1,1,1,1 12 13\nlemma 2 P 0,0,1,1,1,1 0,0,1,1,1,1 12 7\n\
+          lemma 2 P 0,0,1,1,1,1 0,0,1,1,1,1 7 13\nlemma 1 P 0,0,0,0,1,1 0,0,0,0,1,1 12 13\nopen\nend\n",
+    ),
+];
+
 #[test]
-fn looks_before_it_counts(rt: HostRuntime) -> Result<(), Fail> {
-    let lemmas = b"lemma 1 N 0,1,1 0,1,1 4 5
-lemma 1 B 0,1,0 0,1,0 4 5
-lemma 1 B 0,1,1 0,1,1 4 4
-lemma 1 B 1,0,1 1,0,1 3 5
-lemma 1 B 1,0,1 1,0,1 3 3
-lemma 1 N 1,1,0 1,1,0 4 5
-lemma 1 B 1,1,0 1,1,0 4 4
-lemma 1 B 1,1,1 1,1,1 - -
-open
-end
-";
-    assert!(rt; ends(rt.alloc(), 6, &RINGS, 8, Some(1), lemmas)?);
+fn searches_within_budgets(rt: HostRuntime) -> Result<(), Fail> {
+    for (nets, pairs, budget, proved, lines) in &SEARCHES {
+        assert!(rt;
+            ends(rt.alloc(), *nets, pairs, *budget, *proved, lines)?,
+            "{nets} {budget}"
+        );
+    }
     Ok(())
 }
 
@@ -98,50 +137,5 @@ fn searches_long(rt: HostRuntime) -> Result<(), Fail> {
     }
     let (log, proved) = ended(alloc, 18, &pairs, 200_000)?;
     assert!(rt; proved.is_none() && log.lemmas.len() == 16_393);
-    Ok(())
-}
-
-// Six inverters on nets of their own, whose rails and outputs ask for two gaps at the start.
-const SIX: [Pair; 6] = [
-    (0, 6, 12, 13),
-    (1, 7, 12, 13),
-    (2, 8, 12, 13),
-    (3, 9, 12, 13),
-    (4, 10, 12, 13),
-    (5, 11, 12, 13),
-];
-
-const SIX_LEMMAS: &[u8] = b"lemma 1 P 1,1,1,1,1,1 1,1,1,1,1,1 - -
-lemma 2 P 1,1,1,1,1,1 1,1,1,1,1,1 - -
-lemma 2 P 0,0,1,1,1,1 0,0,1,1,1,1 12 13
-lemma 2 P 0,0,1,1,1,1 0,0,1,1,1,1 12 7
-lemma 2 P 0,0,1,1,1,1 0,0,1,1,1,1 7 13
-lemma 1 P 0,0,0,0,1,1 0,0,0,0,1,1 12 13
-";
-
-const SIX_MORE: &[u8] = b"lemma 1 P 0,0,0,0,1,1 0,0,0,0,1,1 12 9
-lemma 1 P 0,0,0,0,1,1 0,0,0,0,1,1 9 13
-gaps 2
-column 0 0 0 0 0
-column 1 1 1 1 1
-column 2 2 0 2 0
-column 3 3 1 3 1
-column 4 4 0 4 0
-column 5 5 1 5 1
-end
-";
-
-// The row takes 15 nodes. A budget of ten is spent within the last limit.
-#[test]
-fn starts_above_one(rt: HostRuntime) -> Result<(), Fail> {
-    let alloc = rt.alloc();
-    let mut whole = Vec::new(alloc);
-    whole.extend_from_slice(SIX_LEMMAS)?;
-    whole.extend_from_slice(SIX_MORE)?;
-    assert!(rt; ends(alloc, 14, &SIX, 15, None, &whole)?);
-    let mut spent = Vec::new(alloc);
-    spent.extend_from_slice(SIX_LEMMAS)?;
-    spent.extend_from_slice(b"open\nend\n")?;
-    assert!(rt; ends(alloc, 14, &SIX, 10, Some(2), &spent)?);
     Ok(())
 }

@@ -1,33 +1,14 @@
-// Bytes and names that are put together.
+// Values as they are printed, and names that are put together.
 ghost use Rattle.std.specs.Prelude.{◌≡◌, ◌++◌, ◌∷◌, [], OnOk};
 
 use cell_num::{Names, NoMemory, copy};
 use std::alloc::{AllocError, Global};
+use std::fmt::Debug;
 
-/// The parts one after another.
-pub fn joined(alloc: Global, parts: &[&[u8]]) -> Result<Vec<u8>, AllocError> {
-    let mut out = Vec::new(alloc);
-    add_parts(&mut out, parts)?;
-    Ok(out)
-}
-
-pub fn add_parts(out: &mut Vec<u8>, parts: &[&[u8]]) -> Result<(), AllocError> {
-    for part in parts {
-        out.extend_from_slice(part)?;
-    }
-    Ok(())
-}
-
-/// Whether a text is these parts, one after another.
-pub fn is_joined(text: &[u8], parts: &[&[u8]]) -> bool {
-    let mut rest = text;
-    for part in parts {
-        match rest.strip_prefix(*part) {
-            Some(behind) => rest = behind,
-            None => return false,
-        }
-    }
-    rest.is_empty()
+/// Whether a value is printed so by `{:?}`.
+pub fn prints<T: Debug>(alloc: Global, value: &T, want: &str) -> Result<bool, AllocError> {
+    let text = format!(in alloc; "{value:?}")?;
+    Ok(text.as_str() == want)
 }
 
 pub fn add_name(alloc: Global, names: &mut Names, word: &[u8]) -> Result<(), NoMemory>
@@ -35,11 +16,4 @@ pub fn add_name(alloc: Global, names: &mut Names, word: &[u8]) -> Result<(), NoM
 {
     let name = copy(alloc, word)?;
     names.push(name)
-}
-
-pub fn add_names(alloc: Global, names: &mut Names, words: &[&[u8]]) -> Result<(), NoMemory> {
-    for word in words {
-        add_name(alloc, names, word)?;
-    }
-    Ok(())
 }

@@ -1,46 +1,21 @@
-ghost use Rattle.std.specs.Prelude.{IfOk};
+// Lemmas on tracks, and their text. The inverter's input is net 0, its output net 1.
+ghost use Rattle.std.specs.Prelude.{◌≤◌, length};
 ghost use Rattle.cell_num.specs.Fingers.{AreFingers};
 
-use cell_num::{Finger, FingerList, Fingers, NetNo, NoMemory, Pins, Row, are_fingers};
+use crate::rows::{INVERTER, fingers};
+use cell_num::{Fingers, NetNo, NoMemory, Pins, copy};
 use row_state::{Kinds, Parity, kinds, start};
 use std::alloc::Global;
 use std::test::Fail;
 use track_check::{TracksRefused, check_tracks};
+use track_log::{read_tracks, write_tracks};
 use track_ways::{NetTracks, TrackLemma, TrackLemmas};
 
-/// The input 0, the output 1, and the rails.
-pub const PINS: Pins = Pins {
+const PINS: Pins = Pins {
     pins: 4,
     vdd: NetNo(2),
     gnd: NetNo(3),
 };
-
-fn finger(row: Row, rail: NetNo) -> Finger {
-    Finger {
-        row,
-        gate: NetNo(0),
-        lo: NetNo(1),
-        hi: rail,
-        width: 20,
-    }
-}
-
-fn inverter(alloc: Global) -> Result<Fingers, Fail>
-    ensures { IfOk result AreFingers }
-{
-    let mut rows = Fingers {
-        nets: 4,
-        p: FingerList::new(alloc),
-        n: FingerList::new(alloc),
-    };
-    rows.p.push(finger(Row::P, PINS.vdd))?;
-    rows.n.push(finger(Row::N, PINS.gnd))?;
-    if are_fingers(&rows) {
-        Ok(rows)
-    } else {
-        Err(Fail::from("no fingers"))
-    }
-}
 
 // No row with at most `gaps` gaps has a legal routing.
 fn of_start(alloc: Global, kinds: &Kinds, gaps: u32) -> Result<TrackLemma, NoMemory> {
@@ -64,19 +39,41 @@ fn answer(alloc: Global, rows: &Fingers, limit: u32, gaps: &[u32]) -> Result<(),
 }
 
 #[test]
-fn needs_a_track(rt: HostRuntime) -> Result<(), Fail> {
+fn needs_a_track_and_no_more(rt: HostRuntime) -> Result<(), Fail> {
     let alloc = rt.alloc();
-    let rows = inverter(alloc)?;
+    let rows = fingers(alloc, 4, &INVERTER)?;
     assert!(rt; answer(alloc, &rows, 0, &[0]) == Ok(()));
     assert!(rt; answer(alloc, &rows, 0, &[3, 0]) == Ok(()));
     assert!(rt; answer(alloc, &rows, 0, &[]) == Err(TracksRefused::NoStart));
+    assert!(rt; answer(alloc, &rows, 1, &[0]) == Err(TracksRefused::Unjustified { at: 0 }));
     Ok(())
 }
 
+// Whether the text is that of a certificate, and is written so again.
+fn is_kept(alloc: Global, text: &[u8]) -> Result<bool, Fail>
+    requires { length text.now ≤ 1000 }
+{
+    let rows = fingers(alloc, 4, &INVERTER)?;
+    let kinds = kinds(alloc, &rows)?;
+    let name = copy(alloc, b"inv")?;
+    match read_tracks(alloc, text, &name, &kinds) {
+        Ok(certificate) => Ok(write_tracks(alloc, &name, &certificate)?.as_slice() == text),
+        Err(_) => Ok(false),
+    }
+}
+
+// One lemma speaks of all rows, and of no track at all; then the largest numbers, and lemmas on cycles.
+const TEXTS: [&[u8]; 3] = [
+    b"cellgen-tracks 1\ncell inv\ngaps 0\ntracks 1\nlemma 0 1 1 - - -\nend\n",
+    b"cellgen-tracks 1\ncell inv\ngaps 63\ntracks 256\nlemma 3 0 0 1 1 0:0,1:255\nlemma 12 0 0 - 3 1:10\nend\n",
+    b"cellgen-tracks 1\ncell inv\ngaps 0\ntracks 2\ncycle 0 1 1 - - -\ncycle 3 0 0 1 1 1>3,3>1\n\
+      lemma 3 0 0 1 1 0:0\nend\n",
+];
+
 #[test]
-fn needs_no_more(rt: HostRuntime) -> Result<(), Fail> {
-    let alloc = rt.alloc();
-    let rows = inverter(alloc)?;
-    assert!(rt; answer(alloc, &rows, 1, &[0]) == Err(TracksRefused::Unjustified { at: 0 }));
+fn keeps_texts(rt: HostRuntime) -> Result<(), Fail> {
+    for text in &TEXTS {
+        assert!(rt; text.len() <= 1000 && is_kept(rt.alloc(), text)?);
+    }
     Ok(())
 }

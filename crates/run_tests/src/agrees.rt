@@ -60,7 +60,7 @@ const CALLS: [(&str, Status, &str); 4] = [
     ),
 ];
 
-const DIFFERENT: [(&str, &str); 6] = [
+const DIFFERENT: [(&str, &str); 9] = [
     ("", "lef NoMacro\n"),
     ("MACRO inv\nPIN a\n", "lef Cut\n"),
     ("MACRO inv\nDENSITY\n", "lef Statement line 2\n"),
@@ -73,6 +73,15 @@ const DIFFERENT: [(&str, &str); 6] = [
         "agree Port name a x 0 y 0\n",
     ),
     ("MACRO inv\nEND inv\n", "agree Bare layer metal1 x 0 y 0\n"),
+    ("MACRO inv PIN _1 END _1 END inv", "agree NoLabel name _1\n"),
+    (
+        "MACRO inv PIN a PORT LAYER metal1 ; RECT 2.55 7.5 3.9 8.7 ; END END a END inv",
+        "agree Port name a x 17 y 50\n",
+    ),
+    (
+        "MACRO inv PIN a PORT LAYER metal2 ; RECT 2.7 7.5 3.9 8.7 ; END END a END inv",
+        "agree Port name a x 18 y 50\n",
+    ),
 ];
 
 fn are_agreed(alloc: Global, gds: &[u8], lef: &[u8]) -> Result<bool, Fail> {
@@ -108,7 +117,7 @@ fn agrees_with(alloc: Global, gds: &[u8]) -> Result<bool, Fail> {
 }
 
 // The abstract that was made with the drawing agrees with it, except under another cell's name; of others the
-// first difference is reported.
+// first difference is reported. A net without a label is named by its number, and no pin has that name.
 #[test]
 fn agrees_with_a_made_cell(rt: HostRuntime) -> Result<(), Fail> {
     let alloc = rt.alloc();

@@ -1,3 +1,4 @@
+use crate::calls::mark;
 use bench_command::bench_text;
 use cell_num::NoMemory;
 use std::alloc::Global;
@@ -13,23 +14,14 @@ M5 t1 s1 gnd gnd n W=1.5u L=0.6u
 .ENDS
 ";
 
-// A sum in which the order of the bytes counts.
-fn checksum(text: &[u8]) -> u32 {
-    let mut sum: u32 = 0;
-    for byte in text {
-        sum = sum.wrapping_mul(31).wrapping_add(u32::from(*byte));
-    }
-    sum
-}
-
 fn is_first(alloc: Global) -> Result<bool, NoMemory> {
     Ok(bench_text(alloc, 1)?.as_slice() == FIRST)
 }
 
-// The length and the checksum of what another program wrote by the same rules.
+// The length and the sum of what another program wrote by the same rules.
 fn are_all(alloc: Global) -> Result<bool, NoMemory> {
     let text = bench_text(alloc, 200)?;
-    Ok(text.len() == 82_518 && checksum(&text) == 4_129_721_220)
+    Ok(mark(&text) == (82_518, 4_129_721_220))
 }
 
 #[test]

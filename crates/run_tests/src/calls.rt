@@ -22,6 +22,9 @@ pub enum Left<'a> {
     Nothing,
     Something,
     Length(usize),
+    /// Its length and its sum, as `mark` gives them.
+    Mark(usize, u32),
+    Front(&'a [u8]),
     Bytes(&'a [u8]),
 }
 
@@ -109,11 +112,22 @@ fn is_said(said: &[u8], want: &Said) -> bool {
     }
 }
 
+/// The length of some bytes, and a sum in which their order counts.
+pub fn mark(bytes: &[u8]) -> (usize, u32) {
+    let mut sum: u32 = 0;
+    for byte in bytes {
+        sum = sum.wrapping_mul(31).wrapping_add(u32::from(*byte));
+    }
+    (bytes.len(), sum)
+}
+
 fn is_left(file: Option<&[u8]>, want: &Left) -> bool {
     match (file, want) {
         (None, Left::Nothing) => true,
         (Some(_), Left::Something) => true,
         (Some(bytes), Left::Length(length)) => bytes.len() == *length,
+        (Some(bytes), Left::Mark(length, sum)) => mark(bytes) == (*length, *sum),
+        (Some(bytes), Left::Front(front)) => bytes.starts_with(front),
         (Some(bytes), Left::Bytes(want)) => bytes == *want,
         _ => false,
     }

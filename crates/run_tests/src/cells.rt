@@ -1,11 +1,11 @@
 use crate::logs::is_rejected;
-use crate::setup::{HEAD, INVERTER, INVERTERS, LEMMA, LISTED, joined, tells};
+use crate::setup::{HEAD, INVERTERS, LEMMA, LISTED, tells};
 use cell_run::Status;
 use std::alloc::Global;
 use std::test::Fail;
 
 // A technology, a subcircuit and its report.
-const ROWS: [(&str, &str, &str); 8] = [
+const ROWS: [(&str, &str, &str); 10] = [
     (
         "",
         ".SUBCKT x a b y vdd gnd\nM1 y a vdd vdd p W=3u L=0.6u\nM2 y b vdd vdd p W=3u L=0.6u\n\
@@ -50,6 +50,19 @@ const ROWS: [(&str, &str, &str); 8] = [
         ".SUBCKT x a y vdd gnd\nMP y a vdd vdd p W=3u L=0.6u nf=3\nMN y a gnd gnd n W=1.5u L=0.6u\n.ENDS\n",
         "columns 3\ngaps 0\nwidth 3\ncolumn 0 gate a p y vdd 6 n y gnd 10\ncolumn 1 gate a p vdd y 7 n - - 0\n\
           column 2 gate a p y vdd 7 n - - 0\n",
+    ),
+    // Rails and models of other names.
+    (
+        "n_models = ['N']\ngnd = 'Vss'\nvdd = 'VCC'\np_models = ['PFET', 'pfet']",
+        ".SUBCKT x a y vcc vss\nMP y a vcc vcc pFet W=3u L=0.6u\nMN y a vss vss n W=1.5u L=0.6u\n.ENDS\n",
+        "columns 1\ngaps 0\nwidth 1\ncolumn 0 gate a p y vcc 20 n y vss 10\n",
+    ),
+    // Lines, words and numbers in many forms.
+    (
+        "",
+        "+ a\n.SUBCKT X A  Y\t$ pins\r\n*.PinInfo A:I\n+ vdd gnd\n\nM1 y a vdd vdd p W = 3u L= 600N\n+ AD=2p $ b\n\
+          * c\nMn Y a\n+ GND gnd NMOS w=.15e-5 l=.6UM\n+nf=1 m=1000m\n.ends",
+        "columns 1\ngaps 0\nwidth 1\ncolumn 0 gate a p y vdd 20 n y gnd 10\n",
     ),
 ];
 
@@ -148,82 +161,6 @@ fn rejects_logs(rt: HostRuntime) -> Result<(), Fail> {
             is_rejected(rt.alloc(), &[head, lemmas, row], line)?,
             "{line}"
         );
-    }
-    Ok(())
-}
-
-// Whether a technology or a subcircuit is refused so.
-fn is_refused(alloc: Global, tech: &str, spice: &str, line: &str) -> Result<bool, Fail> {
-    let said = ["status 4 input\n", line];
-    tells(
-        alloc,
-        "plan t.toml c.sp inv",
-        [tech, spice, ""],
-        Status::Input,
-        &said,
-    )
-}
-
-const TECHNOLOGIES: [(&str, &str); 5] = [
-    ("lambda_nm", "tech Text\n"),
-    ("colour = 1", "tech Key name colour\n"),
-    ("vdd = 5", "tech Form name vdd\n"),
-    ("lambda_nm = 301", "tech Range name lambda_nm value 301\n"),
-    ("lambda_nm = -2", "tech Range name lambda_nm value -2\n"),
-];
-
-#[test]
-fn names_the_fault_of_a_technology(rt: HostRuntime) -> Result<(), Fail> {
-    for (tech, line) in &TECHNOLOGIES {
-        assert!(rt; is_refused(rt.alloc(), tech, INVERTER, line)?, "{line}");
-    }
-    Ok(())
-}
-
-const P: &str = "MP y a vdd vdd p W=3u L=0.6u\n";
-
-// Pins, transistors, and the fault.
-const SUBCIRCUITS: [(&str, &str, &str); 7] = [
-    ("vdd gnd", "", "spice Empty\n"),
-    (
-        "a y vdd",
-        "MP y a vdd vdd p W=3u L=0.6u\nMN y a gnd gnd n W=1.5u L=0.6u\n",
-        "spice NoRail\n",
-    ),
-    ("a y q vdd gnd", P, "spice IdlePin name q\n"),
-    (
-        "a y vdd gnd",
-        "MP y a vdd vdd p W=3u L=0.6u\nMN y a gnd gnd n W=0.75u L=0.6u\n",
-        "spice Narrow line 3 units 5\n",
-    ),
-    (
-        "a y vdd gnd",
-        "*.PININFO a:I y:O\nMP y a vdd vdd p W=3u L=0.6u\nMN y a gnd gnd n W=1.5u L=0.6u nf=3\n",
-        "spice Narrow line 4 units 10\n",
-    ),
-    (
-        "a y vdd gnd",
-        "*.PININFO a:I y:O\nMP y a vdd vdd p W=3u L=0.6u m=1.5\nMN y a gnd gnd n W=1.5u L=0.6u\n",
-        "spice Multiple line 3\n",
-    ),
-    (
-        "a y vdd gnd",
-        "MP y a vdd vdd p W=192.15u L=0.6u\nMN y a gnd gnd n W=192u L=0.6u\n",
-        "fold TooManyColumns count 33\n",
-    ),
-];
-
-fn is_faulty(alloc: Global, pins: &str, transistors: &str, line: &str) -> Result<bool, Fail> {
-    let spice = joined(alloc, &[".SUBCKT inv ", pins, "\n", transistors, ".ENDS\n"])?;
-    let is = is_refused(alloc, "", &spice, line);
-    drop(spice);
-    is
-}
-
-#[test]
-fn names_the_fault_of_a_subcircuit(rt: HostRuntime) -> Result<(), Fail> {
-    for (pins, transistors, line) in &SUBCIRCUITS {
-        assert!(rt; is_faulty(rt.alloc(), pins, transistors, line)?, "{line}");
     }
     Ok(())
 }

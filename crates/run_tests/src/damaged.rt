@@ -1,13 +1,14 @@
 use crate::calls::{End, Said, ends};
-use crate::extract::{inverter, joined, says};
+use crate::extract::{inverter, says};
 use crate::logs::is_rejected;
 use crate::setup::{HEAD, LEMMA, LISTED};
 use cell_run::Status;
-use std::alloc::{AllocError, Global};
+use std::alloc::Global;
 use std::test::Fail;
 
 // Lemmas of the log of the three inverters, what follows its end, and the fault.
-const LOGS: [(&str, &str, &str); 4] = [
+const LOGS: [(&str, &str, &str); 5] = [
+    ("lemma 63 B 0,0,0 0,0,0 - -\n", "", "Unproved line 3"),
     ("lemma 64 P 1,1,1 1,1,1 - -\n", "", "Line line 3"),
     ("lemma 1 P 1,1,2 1,1,1 - -\n", "", "Line line 3"),
     ("lemma 1 P 1,1,1 1,1,0 - -\n", "", "Line line 3"),
@@ -61,69 +62,6 @@ fn is_damaged(alloc: Global, file: &[u8], said: &str) -> Result<bool, Fail> {
         Status::Layout,
         &["status 9 layout\ngds ", said],
     )
-}
-
-// The front of a packed file, whose first length is odd.
-fn add_packed(packed: &mut Vec<u8>) -> Result<(), AllocError> {
-    packed.extend_from_slice(&[31, 139, 8, 0])?;
-    for _ in 0..100u32 {
-        packed.extend_from_slice(&[0; 100])?;
-    }
-    Ok(())
-}
-
-#[test]
-fn refuses_other_files(rt: HostRuntime) -> Result<(), Fail> {
-    let alloc = rt.alloc();
-    assert!(rt; is_damaged(alloc, &[], "Cut at 0\n")?);
-    assert!(rt; is_damaged(alloc, &[0, 2, 0, 2], "Length at 0\n")?);
-    let mut packed = Vec::new(alloc);
-    add_packed(&mut packed)?;
-    let is = is_damaged(alloc, &packed, "Length at 0\n");
-    drop(packed);
-    assert!(rt; is?);
-    Ok(())
-}
-
-// Whether a file ends within a record.
-fn is_cut(alloc: Global, bytes: &[u8]) -> Result<bool, Fail> {
-    let end = End {
-        status: Status::Layout,
-        said: Said::First("status 9 layout\ngds Cut at "),
-        files: &[],
-    };
-    ends(alloc, "extract - f.gds inv", &[("f.gds", bytes)], &[], &end)
-}
-
-fn are_cut(alloc: Global, made: &[u8]) -> Result<bool, Fail> {
-    for length in 0..made.len() {
-        if !is_cut(alloc, &made[..length])? {
-            return Ok(false);
-        }
-    }
-    Ok(true)
-}
-
-fn is_longer(alloc: Global, made: &[u8]) -> Result<bool, Fail> {
-    let longer = joined(alloc, &[made, &[1]])?;
-    let is = is_damaged(alloc, &longer, "Order at 2122 code 1\n");
-    drop(longer);
-    is
-}
-
-fn are_refused(alloc: Global, made: &[u8]) -> Result<bool, Fail> {
-    Ok(are_cut(alloc, made)? && is_longer(alloc, made)?)
-}
-
-// Each first part of a made cell is cut, and a byte after it is no record.
-#[test]
-fn refuses_fronts_of_files(rt: HostRuntime) -> Result<(), Fail> {
-    let alloc = rt.alloc();
-    let made = inverter(alloc)?;
-    let are = are_refused(alloc, &made);
-    drop(made);
-    assert!(rt; are?);
-    Ok(())
 }
 
 // Adds a made cell with one rectangle more than a structure may have: its first one, again and again.

@@ -20,7 +20,7 @@ M4 x b t gnd n W=1.5u L=0.6u
 .ENDS
 ";
 
-const OR: &str = ".SUBCKT or2 a b y vdd gnd
+pub const OR: &str = ".SUBCKT or2 a b y vdd gnd
 MPA p1 a vdd vdd p W=6u L=0.6u
 MPB n b p1 vdd p W=6u L=0.6u
 MNA n a gnd gnd n W=1.5u L=0.6u

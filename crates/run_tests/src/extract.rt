@@ -61,7 +61,7 @@ pub fn inverter(alloc: Global) -> Result<Vec<u8>, Fail> {
 }
 
 // Parts one after another.
-pub fn joined(alloc: Global, parts: &[&[u8]]) -> Result<Vec<u8>, Fail> {
+fn joined(alloc: Global, parts: &[&[u8]]) -> Result<Vec<u8>, Fail> {
     let mut out = Vec::new(alloc);
     add_parts(&mut out, parts)?;
     Ok(out)

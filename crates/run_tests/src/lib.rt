@@ -6,7 +6,7 @@ mod agrees;
 #[cfg(test)]
 mod bench_texts;
 #[cfg(test)]
-mod benches;
+mod bytes;
 #[cfg(test)]
 mod calls;
 #[cfg(test)]
@@ -23,6 +23,8 @@ mod dogleg_cells;
 mod doglegs;
 #[cfg(test)]
 mod extract;
+#[cfg(test)]
+mod faults;
 #[cfg(test)]
 mod gap_rows;
 #[cfg(test)]

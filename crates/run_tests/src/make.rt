@@ -13,7 +13,7 @@ M4 n1 b gnd gnd n W=3u L=0.6u
 .ENDS
 ";
 
-const GATE: &str = ".SUBCKT tg a b c cn vdd gnd
+pub const GATE: &str = ".SUBCKT tg a b c cn vdd gnd
 M1 a c b gnd n W=1.5u L=0.6u
 M2 a cn b vdd p W=3u L=0.6u
 .ENDS

@@ -1,26 +1,20 @@
 // Rows of 32 columns, and a log of many blocks.
-use crate::calls::{End, Left, Said, call, desk_of, ends, made_file};
+use crate::calls::{End, Left, Said, call, desk_of, ends, made_file, mark};
 use crate::setup::inputs;
 use cell_io::MemDesk;
 use cell_run::Status;
 use std::alloc::Global;
 use std::test::Fail;
 
-// Its length, and a sum in which the order of the bytes counts.
-fn mark(bytes: Option<&[u8]>) -> (usize, u32) {
-    let mut sum: u32 = 0;
-    let bytes = bytes.unwrap_or(&[]);
-    for byte in bytes {
-        sum = sum.wrapping_mul(31).wrapping_add(u32::from(*byte));
-    }
-    (bytes.len(), sum)
+fn mark_of(file: Option<&[u8]>) -> (usize, u32) {
+    mark(file.unwrap_or(&[]))
 }
 
 fn are_marks(desk: &MemDesk, want: &[(usize, u32); 4]) -> bool {
-    mark(Some(desk.all_said())) == want[0]
-        && mark(desk.file("out.clog")) == want[1]
-        && mark(desk.file("out.gds")) == want[2]
-        && mark(desk.file("out.lef")) == want[3]
+    mark(desk.all_said()) == want[0]
+        && mark_of(desk.file("out.clog")) == want[1]
+        && mark_of(desk.file("out.gds")) == want[2]
+        && mark_of(desk.file("out.lef")) == want[3]
 }
 
 fn is_marked(
@@ -153,7 +147,7 @@ fn long_log(alloc: Global, failing: u64, end: &End) -> Result<Vec<u8>, Fail> {
 // Whether the log is whole where the report is not said.
 fn is_unsaid(alloc: Global) -> Result<bool, Fail> {
     let log = long_log(alloc, 111, &UNSAID)?;
-    Ok(mark(Some(&log)) == LOG_MARK)
+    Ok(mark(&log) == LOG_MARK)
 }
 
 // Whether the check of a log ends so, where a call of the desk fails.
@@ -176,7 +170,7 @@ fn is_checked(
 // It is checked in 106 pieces and its end, after the two calls for the subcircuit.
 fn is_right(alloc: Global, log: &[u8]) -> Result<bool, Fail> {
     Ok(
-        mark(Some(log)) == LOG_MARK
+        mark(log) == LOG_MARK
             && is_checked(alloc, log, 109, Status::WriteFault, &[])?
             && is_checked(
                 alloc,

@@ -190,3 +190,43 @@ fn checks_up_to_a_crowded_gate(rt: HostRuntime) -> Result<(), Fail> {
     assert!(rt; is_crowded(rt.alloc(), words, &REFUSED)?);
     Ok(())
 }
+
+// Gate g has two P fingers over one N finger, so that one of its columns is a half column.
+const HALF: &str = ".SUBCKT half g h x y z vdd gnd
+MP1 x g vdd vdd p W=3u L=0.6u
+MP2 x g z vdd p W=3u L=0.6u
+MN1 gnd g x gnd n W=3u L=0.6u
+MP3 y h x vdd p W=3u L=0.6u
+MN2 y h gnd gnd n W=3u L=0.6u
+.ENDS
+";
+
+const HALF_TRAILS: &str = "cellgen-trails 1
+cell half
+fill -
+order 0,1
+lemma 2 1 - - 2.0!
+lemma 4 0 - - -
+gaps 1
+column 0 1 1 0 0
+column 1 2 0 1 1
+column 0 0 0 - 0
+end
+";
+
+const HALF_ACCEPTED: End = End {
+    status: Status::Done,
+    said: Said::Whole(&[
+        "status 0 ok\ncell half\ncolumns 3\ngaps 1\nwidth 4\nlemmas 2\nfilled 0\n",
+    ]),
+    files: &[],
+};
+
+// The half column is left open, and not filled: the lemmas prove one gap all the same.
+#[test]
+fn accepts_an_open_gate(rt: HostRuntime) -> Result<(), Fail> {
+    let words = "check - c.sp half l.clog --trails";
+    let given = inputs(["", HALF, HALF_TRAILS]);
+    assert!(rt; ends(rt.alloc(), words, &given, &[], &HALF_ACCEPTED)?);
+    Ok(())
+}

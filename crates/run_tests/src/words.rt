@@ -40,6 +40,17 @@ bytes 3962
 ";
 
 // What another program came to by the same rules.
+const TWELVE_BENCHED: &str = "status 0 ok
+bench 12
+made 12
+cycle 0
+unfinished 0
+columns 69
+gaps 11
+fingers 138
+bytes 82370
+";
+
 const ALL_BENCHED: &str = "status 0 ok
 bench 200
 made 200
@@ -52,7 +63,7 @@ bytes 1397094
 ";
 
 // Calls over the inverter: the words and the end.
-const CALLS: [(&str, Status, &str); 28] = [
+const CALLS: [(&str, Status, &str); 29] = [
     ("plan - c.sp INV", Status::Done, ROW),
     ("plan t.toml c.sp inv", Status::Done, ROW),
     ("plan - d.sp inv", Status::ReadFault, "status 2 read d.sp\n"),
@@ -108,6 +119,7 @@ const CALLS: [(&str, Status, &str); 28] = [
     ("bench 01", Status::Usage, USAGE),
     ("bench +1", Status::Usage, USAGE),
     ("bench 1", Status::Done, BENCH),
+    ("bench 12", Status::Done, TWELVE_BENCHED),
     ("bench 200", Status::Done, ALL_BENCHED),
 ];
 
