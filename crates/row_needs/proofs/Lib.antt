@@ -1,2 +1,4 @@
+pub mod Full
+pub mod Led
 pub mod Rests
 pub mod Tables

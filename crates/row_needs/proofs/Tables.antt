@@ -42,7 +42,11 @@ left_without : (k : Kinds) (s : State) → left_in k (without_ends s) ≡ left_i
 unfolding without_ends
 left_without k s = refl
 
-same_left : (k : Kinds) (s t : State) → IsState k s → IsState k t → rows_code k s ≡ rows_code k t → left_in k s ≡ left_in k t
+pub same_counts : (k : Kinds) (s t : State) → IsState k s → IsState k t → rows_code k s ≡ rows_code k t → (s.p_left ≡ t.p_left) × (s.n_left ≡ t.n_left)
+unfolding without_ends
+same_counts k s t hs ht same = (ap (λ (z : State). z.p_left) (same_bare k s t hs ht same), ap (λ (z : State). z.n_left) (same_bare k s t hs ht same))
+
+pub same_left : (k : Kinds) (s t : State) → IsState k s → IsState k t → rows_code k s ≡ rows_code k t → left_in k s ≡ left_in k t
 same_left k s t hs ht same = sym (left_without k s) ∙ ap (left_in k) (same_bare k s t hs ht same) ∙ left_without k t
 
 possible_without : (k : Kinds) (s : State) (step : Step) → IsPossible k s step → IsPossible k (without_ends s) step

@@ -1,11 +1,13 @@
 // A table of the needs of states, by what is left of the fingers.
-ghost use Rattle.std.specs.Prelude.{◌≡◌, ◌≤◌, ℕ, IfNone, IfOk, IfSome, OnOk, Some, false, nat_eq};
+ghost use Rattle.std.specs.Prelude.{◌≡◌, ◌≤◌, ◌+◌, ℕ, IfErr, IfNone, IfOk, IfSome, OnOk, Some, false, nat_eq};
+ghost use Rattle.cell_num.specs.declared.halt.Halt.TheVariants.{Spent};
 ghost use Rattle.row_state.specs.declared.kind.Kinds.{Kinds as KindsOf};
 ghost use Rattle.row_state.specs.Completion.{left_in};
-ghost use Rattle.std.specs.HashMap.{get};
+ghost use Rattle.std.specs.HashMap.{get, hash_map_len};
 ghost use Rattle.row_state.specs.Candidates.{AreCandidates, IsNumbered};
 ghost use Rattle.row_state.specs.Start.{columns_left, start_of};
-ghost use Rattle.row_needs.specs.Best.{IsBest, IsGrown};
+ghost use Rattle.row_needs.specs.Best.{AddsBelow, AreLedTo, IsBest, IsGrown};
+ghost use Rattle.row_needs.specs.Many.{IsLedTo, ManyRests};
 ghost use Rattle.row_needs.specs.Need.{IsNeed};
 ghost use Rattle.row_needs.specs.Rest.{AreRests, HasRest, IsClosed, IsRest};
 
@@ -37,6 +39,8 @@ impl Needs {
     fn none(alloc: Global) -> Needs
         ensures sound { (k : KindsOf) → AreRests k result }
         ensures closed { (k : KindsOf) → IsClosed k result }
+        ensures led { (k : KindsOf) → AreLedTo k result }
+        ensures empty { hash_map_len result.rests ≡ 0 }
     {
         Needs {
             rests: HashMap::new(alloc),
@@ -53,6 +57,8 @@ impl Needs {
         ensures here { OnOk result (get nat_eq self.new.rests at.now.counts ≡ Some rest) }
         ensures others { OnOk result ((q : ℕ) → nat_eq at.now.counts q ≡ false
             → get nat_eq self.new.rests q ≡ get nat_eq self.old.rests q) }
+        ensures one_more { OnOk result (hash_map_len self.new.rests ≤ hash_map_len self.old.rests + 1) }
+        ensures unspent { IfErr result (λ halt. halt ≡ Spent → ⊥) }
     {
         match self.rests.insert(at.counts, rest) {
             Ok(_) => Ok(()),
@@ -99,18 +105,23 @@ fn need(task: &Task, needs: &mut Needs, at: &Numbered) -> Result<u32, Halt>
     requires few { columns_left task.now.kinds.now at.now.state ≤ 32 }
     requires sound { AreRests task.now.kinds.now needs.old }
     requires closed { IsClosed task.now.kinds.now needs.old }
+    requires led { IsLedTo task.now.kinds.now at.now.state }
+    requires all_led { AreLedTo task.now.kinds.now needs.old }
+    requires within { hash_map_len needs.old.rests ≤ task.now.limit }
     ensures sound { OnOk result (AreRests task.now.kinds.now needs.new) }
     ensures closed { OnOk result (IsClosed task.now.kinds.now needs.new) }
+    ensures all_led { OnOk result (AreLedTo task.now.kinds.now needs.new) }
     ensures grown { OnOk result (IsGrown task.now.kinds.now needs.old needs.new) }
+    ensures below { OnOk result (AddsBelow task.now.kinds.now (columns_left task.now.kinds.now at.now.state + 1)
+        needs.old needs.new) }
+    ensures within { OnOk result (hash_map_len needs.new.rests ≤ task.now.limit) }
     ensures here { OnOk result (HasRest task.now.kinds.now needs.new at.now.state) }
     ensures need { IfOk result (IsNeed task.now.kinds.now at.now.state) }
+    ensures spent { IfErr result (λ halt. halt ≡ Spent → ManyRests task.now.kinds.now task.now.limit) }
 {
     task.kinds.show_limits();
     if let Some(need) = needs.of(task.kinds, at) {
         return Ok(need);
-    }
-    if task.limit <= needs.rests.len() {
-        return Err(Halt::Spent);
     }
     let mut rest = Rest::unknown(task.alloc);
     for next in task.candidates.as_slice() {
@@ -123,17 +134,22 @@ fn need(task: &Task, needs: &mut Needs, at: &Numbered) -> Result<u32, Halt>
     }
     let rest = finished(task, at, rest)?;
     let need = rest.need(&at.state);
+    if task.limit <= needs.rests.len() {
+        return Err(Halt::Spent);
+    }
     needs.add(task.kinds, at, rest)?;
     Ok(need)
 }
 
 impl Needs {
-    /// The needs of the states that next columns lead to from the start state, where the table has no more entries than
-    /// the limit; else it is spent. Not called by the program.
+    /// The needs of the states that next columns lead to from the start state. It is spent where these states have more
+    /// different leftovers than the limit. Not called by the program.
     pub fn new(alloc: Global, kinds: &Kinds, limit: usize) -> Result<Needs, Halt>
         ensures sound { IfOk result (AreRests kinds.now) }
         ensures start { IfOk result (λ needs. HasRest kinds.now needs (start_of kinds.now)) }
         ensures closed { IfOk result (IsClosed kinds.now) }
+        ensures few { IfOk result (λ _. ManyRests kinds.now limit → ⊥) }
+        ensures spent { IfErr result (λ halt. halt ≡ Spent → ManyRests kinds.now limit) }
     {
         kinds.show_limits();
         let candidates = candidates(alloc, kinds)?;

@@ -1,4 +1,5 @@
 use Rattle.std.proofs.Common.{rules, All, None, ap, arith, get_or, subst, sym, take_all, ◌≡◌, ◌+◌, ◌<◌, ◌≤◌, ◌∙◌}
+use Rattle.std.specs.HashMap.{hash_map_len}
 use Rattle.std.proofs.lemmas.List.Elements.{All-get_or}
 use Rattle.row_state.specs.declared.candidate.Candidate.{Candidate}
 use Rattle.row_state.specs.declared.state.State.{State}
@@ -6,9 +7,12 @@ use Rattle.row_state.specs.Candidates.{AreCandidates, IsCandidate, IsNumbered}
 use Rattle.row_state.specs.Start.{columns_left}
 use Rattle.row_state.specs.Steps.{IsPossible, state_after}
 use Rattle.row_state.proofs.Calls.{fewer_after}
-use Rattle.row_needs.specs.Best.{HasNext}
+use Rattle.row_needs.specs.Best.{AreLedTo, HasNext}
+use Rattle.row_needs.specs.Many.{IsLedTo}
 use Rattle.row_needs.specs.Need.{IsNeed}
 use Rattle.row_needs.specs.Rest.{AreRests, HasRest, IsClosed, ends_before}
+use Rattle.row_needs.proofs.Led.{led_more, led_on, many_rests}
+use Rattle.row_needs.proofs.Full.{below_add, below_on}
 use Rattle.row_needs.proofs.Rests.{best_more, best_past, need_is, not_both}
 use Rattle.row_needs.proofs.Tables.{closed_more, grown_more, grown_on, next_more, number_here}
 use Rattle.row_needs.proofs.needs.+need.Goals as goal
@@ -23,7 +27,10 @@ loop-next-preserved-then-not-allows t c = (
   c.loop-next.invariant.1,
   c.loop-next.invariant.2,
   next_more c.args.task.now.kinds.now c.args.at.now.state c.loop-next.needs c.loop-next.needs c.as_slice-next-items.result.now c.loop-next.next-index blank c.loop-next-test.true (λ s has. has) (λ possible. absurd (not_both c.allows.result (c.allows.ensures.1 possible) c.if-not-allows.true)) c.loop-next.invariant.3,
-  best_past c.args.task.now.kinds.now c.args.at.now.state c.as_slice-next-items.result.now c.loop-next.next-index blank c.loop-next.rest c.loop-next-test.true (λ possible. not_both c.allows.result (c.allows.ensures.1 possible) c.if-not-allows.true) c.loop-next.invariant.4,
+  c.loop-next.invariant.4,
+  c.loop-next.invariant.5,
+  c.loop-next.invariant.6,
+  best_past c.args.task.now.kinds.now c.args.at.now.state c.as_slice-next-items.result.now c.loop-next.next-index blank c.loop-next.rest c.loop-next-test.true (λ possible. not_both c.allows.result (c.allows.ensures.1 possible) c.if-not-allows.true) c.loop-next.invariant.7,
 )
 
 pub need-requires : goal.need-requires
@@ -36,12 +43,16 @@ need-requires t c =
     let numbered : IsNumbered c.args.task.now.kinds.now c.in_ok-after.after = c.in_ok-after.ensures.numbered in
     let sound : AreRests c.args.task.now.kinds.now c.loop-next.needs = c.loop-next.invariant.0 in
     let closed : IsClosed c.args.task.now.kinds.now c.loop-next.needs = c.loop-next.invariant.1 in
+    let led : IsLedTo c.args.task.now.kinds.now c.in_ok-after.after.state = subst (IsLedTo c.args.task.now.kinds.now) (sym c.in_ok-after.ensures.state) (led_on c.args.task.now.kinds.now c.args.at.now.state (get_or c.as_slice-next-items.result.now c.loop-next.next-index blank).step c.requires.led possible) in
+    let all_led : AreLedTo c.args.task.now.kinds.now c.loop-next.needs = c.loop-next.invariant.4 in
+    let within : hash_map_len c.loop-next.needs.rests ≤ c.args.task.now.limit = c.loop-next.invariant.6 in
     search rules
 
 pub loop-next-preserved : goal.loop-next-preserved
 unfolding blank
 loop-next-preserved t c =
     let possible : IsPossible c.args.task.now.kinds.now c.args.at.now.state (get_or c.as_slice-next-items.result.now c.loop-next.next-index blank).step = c.allows.ensures.0 c.if-not-allows.false in
+    let fewer : columns_left c.args.task.now.kinds.now c.args.at.now.state ≡ columns_left c.args.task.now.kinds.now c.in_ok-after.after.state + 1 = fewer_after c.args.task.now.kinds.now c.args.at.now.state (get_or c.as_slice-next-items.result.now c.loop-next.next-index blank).step c.show_limits.ensures possible ∙ ap (λ (z : State). columns_left c.args.task.now.kinds.now z + 1) (sym c.in_ok-after.ensures.state) in
     let need : IsNeed c.args.task.now.kinds.now (state_after c.args.task.now.kinds.now c.args.at.now.state (get_or c.as_slice-next-items.result.now c.loop-next.next-index blank).step) c.in_ok-gaps.gaps = subst (λ z. IsNeed c.args.task.now.kinds.now z c.in_ok-gaps.gaps) c.in_ok-after.ensures.state c.in_ok-gaps.ensures.need in
     let each : All (IsCandidate c.args.task.now.kinds.now) c.as_slice-next-items.result.now = subst (All (IsCandidate c.args.task.now.kinds.now)) (sym c.as_slice-next-items.ensures) c.requires.candidates.each in
     let here : IsCandidate c.args.task.now.kinds.now (get_or c.as_slice-next-items.result.now c.loop-next.next-index blank) = All-get_or (IsCandidate c.args.task.now.kinds.now) c.as_slice-next-items.result.now c.loop-next.next-index blank c.loop-next-test.true each in (
@@ -49,7 +60,10 @@ loop-next-preserved t c =
       c.in_ok-gaps.ensures.closed,
       grown_on c.args.task.now.kinds.now c.args.needs.now c.loop-next.needs c.need.new.needs c.loop-next.invariant.2 c.in_ok-gaps.ensures.grown,
       next_more c.args.task.now.kinds.now c.args.at.now.state c.loop-next.needs c.need.new.needs c.as_slice-next-items.result.now c.loop-next.next-index blank c.loop-next-test.true c.in_ok-gaps.ensures.grown (λ _. subst (HasRest c.args.task.now.kinds.now c.need.new.needs) c.in_ok-after.ensures.state c.in_ok-gaps.ensures.here) c.loop-next.invariant.3,
-      best_more c.args.task.now.kinds.now c.args.at.now.state c.as_slice-next-items.result.now c.loop-next.next-index blank c.loop-next.rest c.take.new.self c.in_ok-gaps.gaps c.before-in-loop-next.result c.show_limits.ensures c.loop-next-test.true possible need (c.before-in-loop-next.ensures ∙ ap ends_before here.column) c.in_ok-take.ensures c.loop-next.invariant.4,
+      c.in_ok-gaps.ensures.all_led,
+      below_on c.args.task.now.kinds.now (columns_left c.args.task.now.kinds.now c.args.at.now.state) (columns_left c.args.task.now.kinds.now c.in_ok-after.after.state + 1) c.args.needs.now c.loop-next.needs c.need.new.needs c.loop-next.invariant.5 c.in_ok-gaps.ensures.below fewer,
+      c.in_ok-gaps.ensures.within,
+      best_more c.args.task.now.kinds.now c.args.at.now.state c.as_slice-next-items.result.now c.loop-next.next-index blank c.loop-next.rest c.take.new.self c.in_ok-gaps.gaps c.before-in-loop-next.result c.show_limits.ensures c.loop-next-test.true possible need (c.before-in-loop-next.ensures ∙ ap ends_before here.column) c.in_ok-take.ensures c.loop-next.invariant.7,
     )
 
 pub returns-clause-need : goal.returns-clause-need
@@ -64,3 +78,15 @@ returns-clause-grown t c = grown_on c.args.task.now.kinds.now c.args.needs.now c
 
 pub returns-clause-here : goal.returns-clause-here
 returns-clause-here t c = number_here c.args.task.now.kinds.now c.add.new.self c.args.at.now.state c.args.at.now.counts c.in_ok-rest.rest c.requires.numbered.counts c.in_ok-add.ensures.here
+
+pub returns-clause-all_led : goal.returns-clause-all_led
+returns-clause-all_led t c = led_more c.args.task.now.kinds.now c.loop-next.needs c.add.new.self c.args.at.now.state c.args.at.now.counts c.requires.numbered.counts c.requires.led c.loop-next.invariant.4 c.in_ok-add.ensures.others
+
+pub returns-clause-below : goal.returns-clause-below
+returns-clause-below t c = below_add c.args.task.now.kinds.now c.args.needs.now c.loop-next.needs c.add.new.self c.args.at.now.state c.args.at.now.counts c.requires.numbered.valid c.requires.numbered.counts c.loop-next.invariant.5 c.in_ok-add.ensures.others
+
+pub returns-clause-within : goal.returns-clause-within
+returns-clause-within t c = omega (arith, c.in_ok-add.ensures.one_more, c.if-task-len.false, c.len.ensures.len)
+
+pub returns-then-task-len-clause-spent : goal.returns-then-task-len-clause-spent
+returns-then-task-len-clause-spent t c = λ _. many_rests c.args.task.now.kinds.now c.loop-next.needs c.args.at.now.state c.args.task.now.limit c.len.ensures.unique c.loop-next.invariant.4 c.requires.led (λ has. c.in_default.ensures.none (c.loop-next.invariant.5 c.args.at.now.state c.requires.numbered.valid (omega arith) has)) (omega (arith, c.if-task-len.true, c.len.ensures.len))

@@ -1,6 +1,7 @@
-use Rattle.std.proofs.Common.{All, take}
+use Rattle.std.proofs.Common.{All, take, ◌≤◌}
+use Rattle.std.specs.HashMap.{hash_map_len}
 use Rattle.row_state.specs.Start.{columns_left}
-use Rattle.row_needs.specs.Best.{HasNext, IsBest, IsGrown}
+use Rattle.row_needs.specs.Best.{AddsBelow, AreLedTo, HasNext, IsBest, IsGrown}
 use Rattle.row_needs.specs.Rest.{AreRests, IsClosed}
 use Rattle.row_needs.proofs.needs.+need.Given as goal
 
@@ -13,4 +14,7 @@ invariant-loop-next l =
     × IsClosed l.task.kinds.now l.needs
     × IsGrown l.task.kinds.now l.fn.needs l.needs
     × All (HasNext l.task.kinds.now l.at.state l.needs) (take l.next-index l.next-items)
+    × AreLedTo l.task.kinds.now l.needs
+    × AddsBelow l.task.kinds.now (columns_left l.task.kinds.now l.at.state) l.fn.needs l.needs
+    × (hash_map_len l.needs.rests ≤ l.task.limit)
     × IsBest l.task.kinds.now l.at.state (take l.next-index l.next-items) l.rest
