@@ -16,3 +16,8 @@ pub mod Completed
 pub mod Columns
 pub mod Meets
 pub mod Listed
+pub mod Fronts
+pub mod Beside
+pub mod Halved
+pub mod Standing
+pub mod AllListed

@@ -2,3 +2,6 @@
 pub mod State
 pub mod Levels
 pub mod Meeting
+pub mod Choices
+-- What these use. In `Same` are proofs too, which the trait `Hash` requires here.
+pub mod Same

@@ -1,5 +1,5 @@
 // The calls do nothing: their contracts are the laws.
-ghost use Rattle.std.specs.Prelude.{◌+◌, ◌*◌, ◌≤◌, ℕ, Bool, List, All};
+ghost use Rattle.std.specs.Prelude.{◌+◌, ◌*◌, ◌<◌, ◌≤◌, ◌↔◌, ℕ, Bool, List, All, map};
 ghost use Rattle.cell_num.specs.declared.finger.Fingers.{Fingers};
 ghost use Rattle.cell_num.specs.declared.finger.Row.{Row};
 ghost use Rattle.cell_num.specs.declared.net.NetNo.{NetNo};
@@ -8,8 +8,9 @@ ghost use Rattle.row_model.specs.declared.column.Column.{Column};
 ghost use Rattle.row_model.specs.Arrangement.{IsArrangement};
 ghost use Rattle.row_model.specs.Gaps.{gaps_of};
 ghost use Rattle.trail_state.specs.Levels.{IsGate, IsOrder};
-ghost use Rattle.trail_halves.specs.Open.{ArePools, OpenChoice, open_ends};
-ghost use Rattle.trail_pools.specs.Levels.{AreLevels, AreListed, PoolEnds, PoolLevel, ends_along};
+ghost use Rattle.trail_halves.specs.Open.{ArePools, IsOpenChoice, OpenChoice, open_ends};
+ghost use Rattle.trail_pools.specs.Choices.{open_choice, open_choices_of};
+ghost use Rattle.trail_pools.specs.Levels.{AreLevels, AreListed, IsListed, PoolEnds, PoolLevel, ends_along};
 ghost use Rattle.trail_pools.specs.Meeting.{AreOpenLevels};
 ghost use Rattle.trail_pools.specs.State.{start};
 
@@ -36,4 +37,12 @@ pub fn pool_ends()
         → (order : List NetNo) → IsOrder f order → (levels : List PoolLevel) (ends : ℕ)
         → AreLevels f r counted pool order levels → PoolEnds (256 * f.nets) r pool levels start ends
         → (row : List Column) → IsArrangement row f → ends ≤ 2 * (gaps_of row + 1) }
+{}
+
+/// The listed open choices of a gate are all of its open choices and no others, up to the order of edges and half
+/// edges. It does nothing: its contract is the law.
+pub fn all_open_choices()
+    ensures { (f : Fingers) → AreFingers f → (r : Row) (counted : ℕ → Bool) (gate : ℕ) → gate < f.nets
+        → (choice : OpenChoice) → IsOpenChoice f r counted gate choice
+        ↔ IsListed (map open_choice (open_choices_of f r counted gate)) choice }
 {}
