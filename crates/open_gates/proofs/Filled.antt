@@ -16,7 +16,7 @@ use Rattle.row_model.specs.Gaps.{left_net, right_net}
 use Rattle.trail_state.specs.declared.edge.Edge.{Edge}
 use Rattle.trail_state.specs.Choices.{AreEdgesOf, IsChoice, IsEdgeOf, is_on}
 use Rattle.trail_state.specs.Edges.{edge_between, pair_node}
-use Rattle.trail_state.specs.Nodes.{has_net}
+use Rattle.trail_state.specs.Nodes.{has_net, is_net_in}
 use Rattle.trail_state.proofs.Grouped.{columns_of_gate}
 use Rattle.trail_state.proofs.Members.{Passes, passes_from}
 use Rattle.trail_state.proofs.Opened.{fewer_fingers, in_net, left_has, net_small, right_has}
@@ -78,9 +78,17 @@ module _ (f : Fingers) (g : ℕ) (ok : AreFingers f) (within : g < f.nets) (row 
       let listed : Contains (fingers_in r choice.columns) x.finger = contains_filter_map (λ (d : Column). option_map (λ (y : Placed). y.finger) (place r d)) choice.columns col x.finger at (ap (option_map (λ (y : Placed). y.finger)) is) in
       passes_from (is_on g) (fingers_at r f) x.finger (Contains-permutation (fingers_in r choice.columns) (filter (is_on g) (fingers_at r f)) x.finger (IsPermutation-sym (filter (is_on g) (fingers_at r f)) (fingers_in r choice.columns) (arranges_in r)) listed)
 
-  small : (r : Row) (net : ℕ) (x : Finger) → Contains (fingers_at r f) x → has_net net x ≡ true → net < 256
-  small P net x there has = net_small P f.nets f.p net ok.p ok.few_nets (in_net f.p net x there has)
-  small N net x there has = net_small N f.nets f.n net ok.n ok.few_nets (in_net f.n net x there has)
+  net_below : (r : Row) (net : ℕ) → is_net_in (fingers_at r f) net ≡ true → net < 256
+  net_below P net is = net_small P f.nets f.p net ok.p ok.few_nets is
+  net_below N net is = net_small N f.nets f.n net ok.n ok.few_nets is
+
+  beside_below : (r : Row) (net : ℕ) → is_net_in (fingers_beside r f) net ≡ true → net < 256
+  beside_below P net is = net_below N net is
+  beside_below N net is = net_below P net is
+
+  -- a net of a finger that a column has in the row
+  has_in : (r : Row) (net : ℕ) (col : Column) (x : Placed) → Contains choice.columns col → place r col ≡ Some x → has_net net x.finger ≡ true → is_net_in (fingers_at r f) net ≡ true
+  has_in r net col x at is has = in_net (fingers_at r f) net x.finger (on r col x at is).there has
 
   many_in : (r : Row) → on_gate g (fingers_beside r f) < on_gate g (fingers_at r f) → length choice.columns ≡ on_gate g (fingers_at r f)
   many_in P less = let all : length choice.columns ≡ max (on_gate g f.p) (on_gate g f.n) = choice.arranges.fewest ∙ columns_of_gate f g within in omega (arith, all, less)
@@ -91,37 +99,23 @@ module _ (f : Fingers) (g : ℕ) (ok : AreFingers f) (within : g < f.nets) (row 
   no_empty col at none =
       omega (arith, many_in row more, fewer_fingers row choice.columns col at none, length_permutation (filter (is_on g) (fingers_at row f)) (fingers_in row choice.columns) (arranges_in row), length-filter (is_on g) (fingers_at row f))
 
-  p_ends : (col : Column) (x : Placed) (y : Option Placed) (e : Edge) → Contains choice.columns col → col.n ≡ y → IsEdgeOf f (Some x) y e → HasEnds P x e
-  p_ends col x (Some y) e at is h = record {
-    left = (left_net y).0;
-    right = (right_net y).0;
-    left_small = small N (left_net y).0 y.finger (on N col y at is).there (left_has y);
-    right_small = small N (right_net y).0 y.finger (on N col y at is).there (right_has y);
-    is = h;
-  }
-  p_ends col x None e at none (l, r, l_in, r_in, h) = record {
-    left = l;
-    right = r;
-    left_small = net_small N f.nets f.n l ok.n ok.few_nets l_in;
-    right_small = net_small N f.nets f.n r ok.n ok.few_nets r_in;
-    is = h;
+  -- the other ends of the edge are at nets of the other row
+  ends_by : (r : Row) (x : Placed) (left right : ℕ) (e : Edge) → is_net_in (fingers_beside r f) left ≡ true → is_net_in (fingers_beside r f) right ≡ true → e ≡ edge_between (node_by r (left_net x).0 left) (node_by r (right_net x).0 right) → HasEnds r x e
+  ends_by r x left right e left_in right_in is = record {
+    left = left;
+    right = right;
+    left_small = beside_below r left left_in;
+    right_small = beside_below r right right_in;
+    is = is;
   }
 
+  p_ends : (col : Column) (x : Placed) (y : Option Placed) (e : Edge) → Contains choice.columns col → col.n ≡ y → IsEdgeOf f (Some x) y e → HasEnds P x e
+  p_ends col x (Some y) e at is h = ends_by P x (left_net y).0 (right_net y).0 e (has_in N (left_net y).0 col y at is (left_has y)) (has_in N (right_net y).0 col y at is (right_has y)) h
+  p_ends col x None e at none (left, right, left_in, right_in, h) = ends_by P x left right e left_in right_in h
+
   n_ends : (col : Column) (x : Placed) (y : Option Placed) (e : Edge) → Contains choice.columns col → col.p ≡ y → IsEdgeOf f y (Some x) e → HasEnds N x e
-  n_ends col x (Some y) e at is h = record {
-    left = (left_net y).0;
-    right = (right_net y).0;
-    left_small = small P (left_net y).0 y.finger (on P col y at is).there (left_has y);
-    right_small = small P (right_net y).0 y.finger (on P col y at is).there (right_has y);
-    is = h;
-  }
-  n_ends col x None e at none (l, r, l_in, r_in, h) = record {
-    left = l;
-    right = r;
-    left_small = net_small P f.nets f.p l ok.p ok.few_nets l_in;
-    right_small = net_small P f.nets f.p r ok.p ok.few_nets r_in;
-    is = h;
-  }
+  n_ends col x (Some y) e at is h = ends_by N x (left_net y).0 (right_net y).0 e (has_in P (left_net y).0 col y at is (left_has y)) (has_in P (right_net y).0 col y at is (right_has y)) h
+  n_ends col x None e at none (left, right, left_in, right_in, h) = ends_by N x left right e left_in right_in h
 
   column_ends : (r : Row) (col : Column) (x : Placed) (e : Edge) → Contains choice.columns col → place r col ≡ Some x → IsEdgeOf f col.p col.n e → HasEnds r x e
   column_ends P col x e at is h = p_ends col x col.n e at refl (subst (λ (o : Option Placed). IsEdgeOf f o col.n e) is h)
@@ -131,7 +125,7 @@ module _ (f : Fingers) (g : ℕ) (ok : AreFingers f) (within : g < f.nets) (row 
   one_merged col x e at is h =
       let mine : Passes (is_on g) (fingers_at row f) x.finger = on row col x at is in
       ends_merged row nets x e (column_ends row col x e at is h)
-      (small row (left_net x).0 x.finger mine.there (left_has x)) (small row (right_net x).0 x.finger mine.there (right_has x))
+      (net_below row (left_net x).0 (has_in row (left_net x).0 col x at is (left_has x))) (net_below row (right_net x).0 (has_in row (right_net x).0 col x at is (right_has x)))
       (covers x.finger (left_net x).0 mine.there mine.passes (left_has x)) (covers x.finger (right_net x).0 mine.there mine.passes (right_has x))
 
   first_merged : (col : Column) (cols : List Column) (e : Edge) (es : List Edge) (o : Option Placed) → Contains choice.columns col → place row col ≡ o → IsEdgeOf f col.p col.n e → map (merged_edge row nets) es ≡ map (open_edge row) (fingers_in row cols)

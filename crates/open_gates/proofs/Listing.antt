@@ -4,6 +4,7 @@ use Rattle.std.specs.BTreeSet.{contains}
 use Rattle.std.specs.List.{filter, list_any, range_with_len}
 use Rattle.std.specs.Ordering.{nat_cmp}
 use Rattle.std.proofs.lemmas.Bool.{and_parts, eq-eqb, eqb-true, or_cases}
+use Rattle.std.proofs.lemmas.Bool.Decides.{same_from_decides}
 use Rattle.std.proofs.lemmas.List.{map-append}
 use Rattle.std.proofs.lemmas.List.Elements.{All-contains, All-filter}
 use Rattle.cell_num.specs.declared.finger.Row.{Row}
@@ -35,12 +36,7 @@ set_nodes row nets most nodes all same = λ i. map node_at (filter (λ v. same v
 
 -- ---- nets
 
-same_bool : (a b : Bool) → (a ≡ true → b ≡ true) → (b ≡ true → a ≡ true) → a ≡ b
-same_bool true b h g = sym (h refl)
-same_bool false true h g = g refl
-same_bool false false h g = refl
-
-finger_in : (row : Row) (f : Fingers) (x : Finger) → AreFingers f → Contains (fingers_at row f) x → (x.lo.0 < f.nets) × (x.hi.0 < f.nets)
+pub finger_in : (row : Row) (f : Fingers) (x : Finger) → AreFingers f → Contains (fingers_at row f) x → (x.lo.0 < f.nets) × (x.hi.0 < f.nets)
 finger_in P f x ok there = let is : IsFinger P f.nets x = All-contains (IsFinger P f.nets) f.p x ok.p there in (omega (arith, is.order, is.ends), is.ends)
 finger_in N f x ok there = let is : IsFinger N f.nets x = All-contains (IsFinger N f.nets) f.n x ok.n there in (omega (arith, is.order, is.ends), is.ends)
 
@@ -53,8 +49,8 @@ net_less f opened net ok is =
       | inr hi ↦ omega (arith, ends.1, eqb-true s.it.hi.0 net hi)
     ]
 
-listed_is : (f : Fingers) (opened : OpenGates) → AreFingers f → (net : ℕ) → is_listed (nets_merged f opened) net ≡ is_merged_net f opened net
-listed_is f opened ok net = same_bool (is_listed (nets_merged f opened) net) (is_merged_net f opened net) found listed
+pub listed_is : (f : Fingers) (opened : OpenGates) → AreFingers f → (net : ℕ) → is_listed (nets_merged f opened) net ≡ is_merged_net f opened net
+listed_is f opened ok net = same_from_decides {P = is_merged_net f opened net ≡ true} (is_listed (nets_merged f opened) net) (is_merged_net f opened net) (found, listed) ((λ h. h), (λ h. h))
   where
     found : is_listed (nets_merged f opened) net ≡ true → is_merged_net f opened net ≡ true
     found h =
@@ -64,7 +60,7 @@ listed_is f opened ok net = same_bool (is_listed (nets_merged f opened) net) (is
     listed : is_merged_net f opened net ≡ true → is_listed (nets_merged f opened) net ≡ true
     listed h = test_there (λ m. m == net) (nets_merged f opened) net (passes_to (is_merged_net f opened) (range_with_len 0 f.nets) net (range_has f.nets net (net_less f opened net ok h)) h) (eq-eqb net net refl)
 
-tests_same : (f : Fingers) (opened : OpenGates) (nets : List ℕ) → AreFingers f → nets ≡ nets_merged f opened → is_listed nets ≡ is_merged_net f opened
+pub tests_same : (f : Fingers) (opened : OpenGates) (nets : List ℕ) → AreFingers f → nets ≡ nets_merged f opened → is_listed nets ≡ is_merged_net f opened
 tests_same f opened nets ok is = ap is_listed is ∙ λ i net. listed_is f opened ok net i
 
 pub nodes_same : (f : Fingers) (opened : OpenGates) (nets : List ℕ) (nodes : List Node) → AreFingers f → nets ≡ nets_merged f opened → merged_nodes opened.row (is_listed nets) (256 * f.nets) nodes ≡ merged_nodes opened.row (is_merged_net f opened) (256 * f.nets) nodes

@@ -60,7 +60,7 @@ impl OpenGates {
 }
 
 /// The fingers of the row.
-pub(crate) fn fingers_at(row: Row, fingers: &Fingers) -> &[Finger]
+pub fn fingers_at(row: Row, fingers: &Fingers) -> &[Finger]
     ensures { result.now ≡ fingers_at row fingers.now }
 {
     match row {
@@ -69,7 +69,8 @@ pub(crate) fn fingers_at(row: Row, fingers: &Fingers) -> &[Finger]
     }
 }
 
-fn fingers_beside(row: Row, fingers: &Fingers) -> &[Finger]
+/// The fingers of the other row.
+pub fn fingers_beside(row: Row, fingers: &Fingers) -> &[Finger]
     ensures { result.now ≡ fingers_beside row fingers.now }
 {
     match row {
@@ -161,13 +162,15 @@ pub fn closed_gates(
     Ok(List::from_vec(gates))
 }
 
-fn has_net(net: u32, finger: &Finger) -> bool
+/// Whether an end of the finger has the net.
+pub fn has_net(net: u32, finger: &Finger) -> bool
     ensures { result ≡ has_net net finger.now }
 {
     finger.lo.0 == net || finger.hi.0 == net
 }
 
-fn is_merged(fingers: &Fingers, opened: &OpenGates, net: u32) -> bool
+/// Whether an end of a finger of the row, on a gate that is left open, has the net.
+pub fn is_merged(fingers: &Fingers, opened: &OpenGates, net: u32) -> bool
     ensures { result ≡ is_merged_net fingers.now opened.now net }
 {
     fingers_at(opened.row, fingers)
@@ -176,7 +179,7 @@ fn is_merged(fingers: &Fingers, opened: &OpenGates, net: u32) -> bool
 }
 
 /// The nets whose nodes are merged, in ascending order.
-pub(crate) fn merged_nets(
+pub fn merged_nets(
     alloc: Global,
     fingers: &Fingers,
     opened: &OpenGates,

@@ -6,7 +6,7 @@ mod choices;
 pub mod gates;
 pub mod laws;
 mod level;
-mod merge;
+pub mod merge;
 mod nodes;
 
 pub use gates::{OpenGates, closed_gates, has_more, row_of};

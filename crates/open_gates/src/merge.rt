@@ -6,7 +6,8 @@ use cell_num::{List, NoMemory, Row};
 use std::alloc::{AllocError, Global};
 use trail_state::{Choice, Edge, between, insert};
 
-fn net_in(row: Row, node: u32) -> u32
+/// The node's net in the row.
+pub fn net_in(row: Row, node: u32) -> u32
     ensures { result ≡ net_in row node }
 {
     match row {
@@ -26,7 +27,8 @@ pub(crate) fn node_of(row: Row, net: u32) -> u32
     }
 }
 
-fn is_listed(nets: &[u32], net: u32) -> bool
+/// Whether the net is one of these.
+pub fn is_listed(nets: &[u32], net: u32) -> bool
     ensures { result ≡ is_listed nets.now net }
 {
     nets.iter().any(|other| *other == net)

@@ -1,6 +1,6 @@
 -- The ends of a graph are those that the states of trails count once all gates are done.
-use Rattle.std.proofs.Common.{ℕ, zero, suc, ◌≡◌, ◌+◌, ◌*◌, ◌%◌, ◌<◌, ◌==◌, ◌&&◌, ◌||◌, Bool, true, false, not}
-use Rattle.std.proofs.Common.{if◌then◌else◌, List, [], ◌∷◌, refl, sym, ap, arith, ◌∙◌, inl, inr, sum_by}
+use Rattle.std.proofs.Common.{ℕ, zero, suc, ◌≡◌, ◌%◌, ◌==◌, ◌&&◌, ◌||◌, true, false, not}
+use Rattle.std.proofs.Common.{List, [], ◌∷◌, refl, sym, ap, arith, ◌∙◌, inl, inr, sum_by}
 use Rattle.std.specs.List.{list_any}
 use Rattle.std.proofs.lemmas.Bool.{cases_eq, eq-eqb, ne_eqb}
 use Rattle.std.proofs.lemmas.List.Sums.{sum_by-cons}
@@ -16,7 +16,7 @@ use Rattle.trail_state.proofs.Links as links
 use Rattle.trail_check.specs.Graph.{class_of, degree, ends_of, has_edge, is_even_class, is_odd}
 use Rattle.trail_check.proofs.Edges.{class_is, meets}
 
-parity_is : (n : ℕ) → (n % 2 == 1) ≡ parity n
+pub parity_is : (n : ℕ) → (n % 2 == 1) ≡ parity n
 parity_is zero = refl
 parity_is (suc n) = elim (cases_eq (n % 2) 1) [
   | inl odd ↦
@@ -29,15 +29,15 @@ parity_is (suc n) = elim (cases_eq (n % 2) 1) [
       eq-eqb (suc n % 2) 1 now ∙ sym (ap not before)
 ]
 
-degree_is : (es : List Edge) (v : ℕ) → degree es v ≡ sum_by (ends_on v) (fingers_of es)
+pub degree_is : (es : List Edge) (v : ℕ) → degree es v ≡ sum_by (ends_on v) (fingers_of es)
 degree_is [] v = refl
 degree_is (e ∷ es) v =
     omega (arith, degree_is es v, sum_by-cons (meets v) e es, sum_by-cons (ends_on v) (finger_of e) (fingers_of es))
 
-odd_is : (es : List Edge) (v : ℕ) → is_odd es v ≡ odd_at es v
+pub odd_is : (es : List Edge) (v : ℕ) → is_odd es v ≡ odd_at es v
 odd_is es v = parity_is (degree es v) ∙ ap parity (degree_is es v)
 
-has_is : (c d : ℕ → ℕ) (es : List Edge) (h : ℕ) → ((v : ℕ) → c v ≡ d v)
+pub has_is : (c d : ℕ → ℕ) (es : List Edge) (h : ℕ) → ((v : ℕ) → c v ≡ d v)
     → list_any (λ (e : Edge). c e.a.0 == h) es ≡ has_finger d (fingers_of es) h
 has_is c d [] h same = refl
 has_is c d (e ∷ es) h same =

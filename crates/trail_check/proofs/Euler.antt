@@ -1,8 +1,8 @@
 -- Euler: some walk passes each edge once, and its stretches without a break have no more ends than the graph must have.
-use Rattle.std.proofs.Common.{ℕ, zero, suc, ◌≡◌, ◌≢◌, ◌+◌, ◌-◌, ◌*◌, ◌/◌, ◌%◌, ◌≤◌, ◌<◌, ◌==◌, ◌&&◌, Bool, true, false}
+use Rattle.std.proofs.Common.{ℕ, ◌≡◌, ◌+◌, ◌-◌, ◌*◌, ◌/◌, ◌%◌, ◌≤◌, ◌<◌, ◌==◌, ◌&&◌, Bool, true, false}
 use Rattle.std.proofs.Common.{if◌then◌else◌, List, [], ◌∷◌, ◌++◌, length, refl, sym, ap, subst, arith, ◌∙◌, inl, inr}
 use Rattle.std.proofs.Common.{◌⊎◌, All, Contains, IsPermutation}
-use Rattle.std.specs.List.{flat_map, list_any}
+use Rattle.std.specs.List.{flat_map}
 use Rattle.std.proofs.lemmas.Bool.{and_from, and_left, and_right, cases_Bool, cases_lt, eq-eqb, eqb-true, ne_eqb}
 use Rattle.std.proofs.lemmas.Bool.{or_cases}
 use Rattle.std.proofs.lemmas.List.Elements.{All-contains, All-head, All-tail}
@@ -10,18 +10,17 @@ use Rattle.std.proofs.lemmas.List.Sorted.{All-permutation, Contains-permutation,
 use Rattle.std.proofs.lemmas.List.Sorted.{sum_by-IsPermutation}
 use Rattle.std.proofs.lemmas.List.Sums.{sum_by-cons}
 use Rattle.cell_num.proofs.Lists.{all_imply, contains_here, contains_there}
-use Rattle.cell_num.proofs.Pairs.{Some', test_finds, test_there}
+use Rattle.cell_num.proofs.Pairs.{Some', test_there}
 use Rattle.row_trails.specs.Trails.{size, size_none, size_same}
 use Rattle.trail_state.specs.declared.edge.Edge.{Edge}
 use Rattle.trail_state.specs.Edges.{edge_between}
 use Rattle.trail_state.proofs.Sizes.{IsNew, size_adds}
 use Rattle.trail_state.proofs.Walks.{breaks_from, breaks_of, edges_of}
 use Rattle.trail_check.specs.Graph.{AreChained, class_of, degree, ends_of, has_edge, is_even_class, is_odd}
-use Rattle.trail_check.proofs.Steps.{IsEven, Runs, Step, edges, is_at, is_on}
+use Rattle.trail_check.proofs.Steps.{IsEven, Runs, Step, is_at, is_on}
 use Rattle.trail_check.proofs.Steps as steps
 use Rattle.trail_check.proofs.Joins.{Trail}
 use Rattle.trail_check.proofs.Apart.{AreApart, Settled, settle, walk}
-use Rattle.trail_check.proofs.Ends.{AreLabels}
 use Rattle.trail_check.proofs.Closed.{IsClosed, classes_closed, classes_closed_are, classes_differ, ends_differ}
 use Rattle.trail_check.proofs.Closed.{ends_odd, ends_open, two_each}
 use Rattle.trail_check.proofs.Ends as ends

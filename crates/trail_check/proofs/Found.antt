@@ -4,6 +4,7 @@ use Rattle.std.specs.HashMap.{get}
 use Rattle.std.specs.List.{list_any}
 use Rattle.std.proofs.Common.{refl, sym, ap, subst, arith, ◌∙◌, inl, inr}
 use Rattle.std.proofs.lemmas.Bool.{and_parts, cases_eq, cases_lt, eqb-true}
+use Rattle.std.proofs.lemmas.Bool.Decides.{same_from_decides}
 use Rattle.std.proofs.lemmas.List.{get_or_append_left, get_or_push, length-append}
 use Rattle.std.proofs.lemmas.List.Elements.{Contains-append_left, Contains-push}
 use Rattle.std.proofs.lemmas.Option.{get_or_from_slice_get, slice_get-get_or, slice_get_within}
@@ -15,12 +16,6 @@ use Rattle.trail_check.specs.declared.index.LemmaIndex.{LemmaIndex}
 use Rattle.trail_check.specs.Indexed.{IsIndexOf, noted_at, says_at, state_number}
 use Rattle.trail_check.specs.Justified.{same_state, says}
 use Rattle.trail_check.proofs.Sound.{state_is}
-
--- two tests that imply one another
-same_bool : (a b : Bool) → (a ≡ true → b ≡ true) → (b ≡ true → a ≡ true) → a ≡ b
-same_bool true b h g = sym (h refl)
-same_bool false true h g = g refl
-same_bool false false h g = refl
 
 slice_there : {X : Type 0} (xs : List X) (x : X) (c : Contains xs x) → slice_get xs c.0 ≡ Some x
 slice_there {X} xs x c = slice_get-get_or xs c.0 x c.1 ∙ ap (λ (y : X). Some y) c.2
@@ -51,7 +46,7 @@ says_found lemmas index done s need all h =
 
 pub looked_up : (lemmas : List TrailLemma) (index : LemmaIndex) (done : ℕ) (s : List Place) (need : ℕ) → IsIndexOf lemmas index → list_any (says_at lemmas done s need) (noted_at index (state_number done s)) ≡ list_any (says done s need) lemmas
 looked_up lemmas index done s need all =
-    same_bool (list_any (says_at lemmas done s need) (noted_at index (state_number done s))) (list_any (says done s need) lemmas) found (says_found lemmas index done s need all)
+    same_from_decides {P = list_any (says done s need) lemmas ≡ true} (list_any (says_at lemmas done s need) (noted_at index (state_number done s))) (list_any (says done s need) lemmas) (found, says_found lemmas index done s need all) ((λ h. h), (λ h. h))
   where
     found : list_any (says_at lemmas done s need) (noted_at index (state_number done s)) ≡ true → list_any (says done s need) lemmas ≡ true
     found h =

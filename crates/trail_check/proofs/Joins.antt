@@ -1,12 +1,12 @@
 -- Two trails that meet are one: at their ends, or anywhere where one of them ends where it begins.
-use Rattle.std.proofs.Common.{ℕ, ◌≡◌, ◌+◌, ◌<◌, ◌==◌, ◌||◌, ◌&&◌, Bool, true, false, List, [], ◌∷◌, ◌++◌, append_assoc}
-use Rattle.std.proofs.Common.{length, length-append, refl, sym, ap, subst, arith, ◌∙◌, inl, inr, Contains}
+use Rattle.std.proofs.Common.{ℕ, ◌≡◌, ◌+◌, ◌<◌, ◌==◌, ◌||◌, ◌&&◌, Bool, true, List, [], ◌∷◌, ◌++◌, append_assoc}
+use Rattle.std.proofs.Common.{length, length-append, refl, sym, ap, subst, arith, ◌∙◌, inl, inr}
 use Rattle.std.proofs.Common.{IsPermutation}
 use Rattle.std.specs.List.{list_any}
 use Rattle.std.proofs.lemmas.Bool.{and_parts, eq-eqb, eqb-true, or_cases, or_left, or_right}
 use Rattle.std.proofs.lemmas.List.Sorted.{IsPermutation-append, IsPermutation-append_comm, IsPermutation-append_left}
-use Rattle.std.proofs.lemmas.List.Sorted.{IsPermutation-append_right, IsPermutation-refl, IsPermutation-sym}
-use Rattle.std.proofs.lemmas.List.Sorted.{IsPermutation-trans, length_permutation}
+use Rattle.std.proofs.lemmas.List.Sorted.{IsPermutation-refl}
+use Rattle.std.proofs.lemmas.List.Sorted.{IsPermutation-trans}
 use Rattle.cell_num.proofs.Pairs.{Some', test_finds, test_there}
 use Rattle.trail_check.proofs.Steps.{Cut, Runs, Step, cut_at, edges, edges_append, edges_turned, is_at, is_on}
 use Rattle.trail_check.proofs.Steps.{runs_append, runs_turned, turned}

@@ -1,8 +1,8 @@
 -- The laws: choices have a row with no more gaps than their ends say, and each row is one of some choices.
-use Rattle.std.proofs.Common.{ℕ, ◌≡◌, ◌+◌, ◌-◌, ◌*◌, ◌/◌, ◌≤◌, ◌<◌, ◌==◌, ◌↔◌, Bool, true, false, leb, List, [], ◌∷◌}
-use Rattle.std.proofs.Common.{◌++◌, Option, Some, None, append-nil, append_assoc, option_map, length, map, refl, sym}
+use Rattle.std.proofs.Common.{ℕ, ◌≡◌, ◌+◌, ◌-◌, ◌*◌, ◌≤◌, ◌<◌, ◌==◌, ◌↔◌, Bool, true, false, leb, List, [], ◌∷◌}
+use Rattle.std.proofs.Common.{◌++◌, Option, Some, None, append-nil, append_assoc, option_map, map, refl, sym}
 use Rattle.std.proofs.Common.{ap, subst, arith, ◌∙◌, All, Contains, IsPermutation}
-use Rattle.std.specs.List.{AllZip, flat_map, zip}
+use Rattle.std.specs.List.{flat_map, zip}
 use Rattle.std.proofs.lemmas.Bool.{eq-eqb, or_left, or_right}
 use Rattle.std.proofs.lemmas.List.{length-map}
 use Rattle.std.proofs.lemmas.List.Elements.{All-append, All-contains, All-head, All-nil, All-tail}
@@ -13,7 +13,6 @@ use Rattle.std.proofs.lemmas.List.Sorted.{length_permutation}
 use Rattle.cell_num.specs.declared.net.NetNo.{NetNo}
 use Rattle.cell_num.specs.declared.finger.Row.{Row}
 use Rattle.cell_num.specs.declared.finger.Row.TheVariants.{P, N}
-use Rattle.cell_num.specs.declared.finger.Finger.{Finger}
 use Rattle.cell_num.specs.declared.finger.Fingers.{Fingers}
 use Rattle.cell_num.specs.Fingers.{AreFingers}
 use Rattle.cell_num.proofs.In.{contains_map}
@@ -36,19 +35,17 @@ use Rattle.trail_state.proofs.Chosen.{IsDrawn, added_permutes, column_at, edge_a
 use Rattle.trail_state.proofs.Counted.{settled}
 use Rattle.trail_state.proofs.Follows.{added}
 use Rattle.trail_state.proofs.Law.{OfRow, is_net_gate, of_row, zip_columns, zip_drawn, zip_edges}
-use Rattle.trail_state.proofs.Links.{finger_of, fingers_of}
+use Rattle.trail_state.proofs.Links.{finger_of}
 use Rattle.trail_state.proofs.Opened.{in_net, left_has, met_can, net_small, right_has}
 use Rattle.trail_state.proofs.Walks.{Walk, breaks_of, edges_of, ordered}
-use Rattle.trail_check.specs.Graph.{ends_of}
 use Rattle.trail_check.specs.Rows.{AreChoices, AreFewestEnds, AreFewestGaps, HasChoices, HasRow, ends_in, gaps_with}
 use Rattle.trail_check.proofs.Counts.{ends_are}
-use Rattle.trail_check.proofs.Edges.{of_edge}
 use Rattle.trail_check.proofs.Euler.{IsBelow, IsEdge, Walked, euler}
 use Rattle.trail_check.proofs.Lists as lists
 use Rattle.trail_check.proofs.Lists.{Ordered, kept_permutation}
 use Rattle.trail_check.proofs.Rowed.{IsDrawing, RowedFew, rowed_few}
 use Rattle.trail_check.proofs.Together.{Whole, whole}
-use Rattle.trail_check.proofs.Turned.{AreSmall, Drawn, drawn}
+use Rattle.trail_check.proofs.Turned.{AreSmall, drawn}
 
 abbrev pub all_edges : List (List Edge) → List Edge
 all_edges cs = flat_map (λ (c : List Edge). c) cs

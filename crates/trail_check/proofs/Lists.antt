@@ -1,7 +1,7 @@
 -- Lists in other orders: what they are mapped from, what is kept of them, and by keys.
-use Rattle.std.proofs.Common.{ℕ, zero, suc, ◌≡◌, ◌≢◌, ◌+◌, ◌≤◌, ◌<◌, ◌==◌, Bool, true, false, not, cond, List, [], ◌∷◌}
+use Rattle.std.proofs.Common.{ℕ, ◌≡◌, ◌≢◌, ◌+◌, ◌==◌, Bool, true, false, not, cond, List, [], ◌∷◌}
 use Rattle.std.proofs.Common.{◌++◌, Option, Some, None, get_or, set, length, map, refl, sym, ap, subst, arith, ◌∙◌, inl}
-use Rattle.std.proofs.Common.{inr, All, AllPairs, Contains, IsPermutation, sum_by}
+use Rattle.std.proofs.Common.{inr, AllPairs, Contains, IsPermutation, sum_by}
 use Rattle.std.specs.List.{cons_option, filter, filter_map, flat_map, swap}
 use Rattle.std.specs.Bool.{Decides}
 use Rattle.std.proofs.Math.ListN.{get_or-map}

@@ -17,10 +17,10 @@ use Rattle.trail_check.specs.Justified.{choice_reaches, says}
 
 -- ---- counts
 
-count_cons : {X : Type 0} (p : X → Bool) (x : X) (xs : List X) → count_by p (x ∷ xs) ≡ cond (p x) 1 0 + count_by p xs
+pub count_cons : {X : Type 0} (p : X → Bool) (x : X) (xs : List X) → count_by p (x ∷ xs) ≡ cond (p x) 1 0 + count_by p xs
 count_cons p x xs = sum_by-cons (λ y. cond (p y) 1 0) x xs
 
-count_map : {X Y : Type 0} (p : Y → Bool) (g : X → Y) (xs : List X) → count_by p (map g xs) ≡ count_by (λ x. p (g x)) xs
+pub count_map : {X Y : Type 0} (p : Y → Bool) (g : X → Y) (xs : List X) → count_by p (map g xs) ≡ count_by (λ x. p (g x)) xs
 count_map p g [] = refl
 count_map p g (x ∷ xs) = count_cons p (g x) (map g xs) ∙ ap (λ n. cond (p (g x)) 1 0 + n) (count_map p g xs) ∙ sym (count_cons (λ y. p (g y)) x xs)
 

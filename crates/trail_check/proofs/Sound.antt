@@ -24,7 +24,7 @@ ends_none (l ∷ ls) s = λ c within.
     let none : 0 - ends_after l.now l.next s c ≡ 0 = omega arith in
     subst (Ends ls (state_after l.now l.next s c)) (sym none) (ends_none ls (state_after l.now l.next s c))
 
-ends_fewer : (levels : List Level) (s : List Place) (a b : ℕ) → Ends levels s b → a ≤ b → Ends levels s a
+pub ends_fewer : (levels : List Level) (s : List Place) (a b : ℕ) → Ends levels s b → a ≤ b → Ends levels s a
 ends_fewer [] s a b h few = omega (arith, h, few)
 ends_fewer (l ∷ ls) s a b h few = λ c within.
     ends_fewer ls (state_after l.now l.next s c) (a - ends_after l.now l.next s c) (b - ends_after l.now l.next s c) (h c within) (omega (arith, few))
@@ -81,7 +81,7 @@ said_true levels lemma done s need holds h =
     (subst (λ (t : List Place). Ends (drop done levels) t lemma.bound) state (subst (λ (d : ℕ). Ends (drop d levels) lemma.state lemma.bound) gates holds))
     few
 
-or_left_off : (a b : Bool) → a ≡ false → (a || b) ≡ true → b ≡ true
+pub or_left_off : (a b : Bool) → a ≡ false → (a || b) ≡ true → b ≡ true
 or_left_off true b off h = absurd cc
 or_left_off false b off h = h
 
@@ -101,13 +101,13 @@ known_true levels earlier done s need holds h =
     ]
 
 -- each item of a list that passes as a whole
-passes : {A : Type 0} (p : A → Bool) (xs : List A) → list_all p xs ≡ true → All (λ x. p x ≡ true) xs
+pub passes : {A : Type 0} (p : A → Bool) (xs : List A) → list_all p xs ≡ true → All (λ x. p x ≡ true) xs
 passes {A = A} p [] h = All-nil (λ (x : A). p x ≡ true)
 passes {A = A} p (x ∷ xs) h = let both = and_parts _ _ h in All-cons (λ (y : A). p y ≡ true) x xs both.0 (passes p xs both.1)
 
-level_at : (levels : List Level) (done : ℕ) (level : Level) → slice_get levels done ≡ Some level → drop done levels ≡ level ∷ drop (done + 1) levels
+pub level_at : {X : Type 0} (levels : List X) (done : ℕ) (level : X) → slice_get levels done ≡ Some level → drop done levels ≡ level ∷ drop (done + 1) levels
 level_at [] done level h = absurd (none-some level h)
-level_at (l ∷ ls) zero level h = ap (λ (x : Level). x ∷ ls) (same_Some l level h)
+level_at {X = X} (l ∷ ls) zero level h = ap (λ (x : X). x ∷ ls) (same_Some l level h)
 level_at (l ∷ ls) (suc done) level h = let e : suc done + 1 ≡ suc (done + 1) = omega arith in rw e (level_at ls done level h)
 
 justified_true : (levels : List Level) (earlier : List TrailLemma) (lemma : TrailLemma) → All (IsTrueOf levels) earlier → is_justified levels earlier lemma ≡ true → IsTrueOf levels lemma
@@ -134,7 +134,7 @@ sound levels earlier (x ∷ xs) n holds h =
 
 -- ---- the state before the first gate
 
-no_places : (s : List Place) → (length s == 0) ≡ true → s ≡ []
+pub no_places : (s : List Place) → (length s == 0) ≡ true → s ≡ []
 no_places [] h = refl
 no_places (x ∷ xs) h = absurd (omega (arith, eqb-true (length (x ∷ xs)) 0 h))
 

@@ -1,10 +1,10 @@
 -- The columns of a choice of each gate arrange all fingers.
-use Rattle.std.proofs.Common.{ℕ, zero, suc, ◌≡◌, ◌≢◌, ◌+◌, ◌≤◌, ◌<◌, ◌==◌, Bool, true, false, if◌then◌else◌, max, List}
-use Rattle.std.proofs.Common.{[], ◌∷◌, ◌++◌, Option, Some, None, option_map, length, length-append, map, refl, sym, ap}
+use Rattle.std.proofs.Common.{ℕ, zero, suc, ◌≡◌, ◌≢◌, ◌+◌, ◌<◌, ◌==◌, if◌then◌else◌, max, List}
+use Rattle.std.proofs.Common.{[], ◌∷◌, ◌++◌, option_map, length, length-append, refl, sym, ap}
 use Rattle.std.proofs.Common.{subst, arith, ◌∙◌, inl, inr, ◌⊎◌, All, AllPairs, Contains, IsPermutation, sum_by}
-use Rattle.std.specs.List.{AllZip, filter, filter_map, flat_map}
+use Rattle.std.specs.List.{AllZip, filter, flat_map}
 use Rattle.std.proofs.lemmas.Bool.{cases_eq, cases_lt, eq-eqb, ne_eqb}
-use Rattle.std.proofs.lemmas.List.Elements.{All-append, All-contains, All-head, All-nil, All-tail, filter_map-append}
+use Rattle.std.proofs.lemmas.List.Elements.{All-append, All-contains, All-nil, filter_map-append}
 use Rattle.std.proofs.lemmas.List.Sorted.{IsPermutation-append, IsPermutation-refl, IsPermutation-trans}
 use Rattle.std.proofs.lemmas.List.Sums.{sum_by-cons}
 use Rattle.cell_num.specs.declared.net.NetNo.{NetNo}
@@ -12,7 +12,7 @@ use Rattle.cell_num.specs.declared.finger.Row.{Row}
 use Rattle.cell_num.specs.declared.finger.Row.TheVariants.{P, N}
 use Rattle.cell_num.specs.declared.finger.Finger.{Finger}
 use Rattle.cell_num.specs.declared.finger.Fingers.{Fingers}
-use Rattle.cell_num.specs.Fingers.{AreFingers, columns_of, on_gate, sum_below}
+use Rattle.cell_num.specs.Fingers.{columns_of, on_gate, sum_below}
 use Rattle.cell_num.proofs.Lists.{contains_cons, contains_here, contains_none, contains_there}
 use Rattle.cell_num.proofs.Pairs.{count_there, pairs_head, pairs_tail}
 use Rattle.row_model.specs.declared.column.Placed.{Placed}

@@ -1,7 +1,7 @@
 -- A column and the nets at its ends, as it stands and turned.
-use Rattle.std.proofs.Common.{ℕ, ◌≡◌, ◌+◌, ◌*◌, ◌<◌, ◌==◌, Bool, true, false, not, if◌then◌else◌, leb, Option, Some}
-use Rattle.std.proofs.Common.{None, option_map, refl, sym, ap, subst, arith, ◌∙◌, inl, inr, ◌⊎◌}
-use Rattle.std.proofs.lemmas.Bool.{cases_Bool, eq-eqb, eqb-true, ne_eqb}
+use Rattle.std.proofs.Common.{ℕ, ◌≡◌, ◌<◌, ◌==◌, Bool, true, false, not, if◌then◌else◌, leb, Option, Some}
+use Rattle.std.proofs.Common.{None, option_map, refl, sym, ap, subst, ◌∙◌, inl, inr, ◌⊎◌}
+use Rattle.std.proofs.lemmas.Bool.{eq-eqb, eqb-true}
 use Rattle.cell_num.specs.declared.net.NetNo.{NetNo}
 use Rattle.cell_num.specs.declared.finger.Row.{Row}
 use Rattle.cell_num.specs.declared.finger.Row.TheVariants.{P, N}
@@ -12,7 +12,7 @@ use Rattle.row_model.specs.declared.column.Column.{Column}
 use Rattle.row_model.specs.Arrangement.{AreOneColumn, IsColumn, IsPlaced, place}
 use Rattle.row_model.specs.Gaps.{left_net, right_net}
 use Rattle.trail_state.specs.declared.edge.Edge.{Edge}
-use Rattle.trail_state.specs.Edges.{edge_between, edge_of, pair_node}
+use Rattle.trail_state.specs.Edges.{edge_between, pair_node}
 use Rattle.trail_state.specs.Choices.{IsEdgeOf}
 use Rattle.trail_state.specs.Nodes.{is_net_in}
 use Rattle.trail_state.proofs.Walks.{ordered}

@@ -87,7 +87,8 @@ fn turn(odd: bool, node: Node, edge: &Edge) -> bool
     odd != ((node == edge.a) != (node == edge.b))
 }
 
-fn is_odd_after(closing: &ClosingNode, edges: &[Edge]) -> bool
+/// Whether an odd number of ends meet the node after edges of the choice.
+pub fn is_odd_after(closing: &ClosingNode, edges: &[Edge]) -> bool
     ensures { result ≡ is_odd_after edges.now closing.now }
 {
     let mut odd = closing.odd;

@@ -18,8 +18,8 @@ pub struct LemmaIndex {
     places: HashMap<u64, Vec<usize>>,
 }
 
-// The number is one of 64 bits, and states with one number are compared themselves.
-fn mixed(number: u64, more: u64) -> u64
+/// A number of 64 bits, of a number and one more. States with one number are compared themselves.
+pub fn mixed(number: u64, more: u64) -> u64
     ensures { result ≡ mixed number more }
 {
     number.wrapping_mul(1_099_511_628_211).wrapping_add(more)
@@ -41,7 +41,8 @@ fn with_place(number: u64, place: &Place) -> u64
     mixed(class, marks(place))
 }
 
-fn state_number(done: u64, state: &[Place]) -> u64
+/// A number of the places of a state after the first `done` gates. Other states may share it.
+pub fn state_number(done: u64, state: &[Place]) -> u64
     ensures { result ≡ state_number done state.now }
 {
     let mut number = done;

@@ -14,8 +14,8 @@ mod row;
 mod ways;
 
 pub use check::check_trails;
-pub use closing::{ClosingNode, ClosingNodes, closing_nodes, odd_ends};
-pub use index::LemmaIndex;
+pub use closing::{ClosingNode, ClosingNodes, closing_nodes, is_odd_after, odd_ends};
+pub use index::{LemmaIndex, mixed, state_number};
 pub use justified::check_lemmas;
 pub use known::{ends_proved, is_same_state};
 pub use laws::{classes, fewest_gaps, known_ends, possible_gaps};

@@ -24,13 +24,14 @@ use Rattle.trail_check.specs.Rows.{AreChoices, HasChoices, ends_in}
 use Rattle.trail_check.proofs.Law.{all_below, choices_of_row, gate_below}
 use Rattle.trail_check.proofs.Together.{zip_append}
 use Rattle.trail_halves.specs.Halves.{AreFilled, Fills, HavePools}
-use Rattle.trail_halves.specs.Open.{AreOpenChoices, ArePools, HasOpenChoices, IsOpenChoice, OpenChoice, edges_in}
+use Rattle.trail_halves.specs.declared.choice.OpenChoice.{OpenChoice}
+use Rattle.trail_halves.specs.Open.{AreOpenChoices, ArePools, HasOpenChoices, IsOpenChoice, edges_in}
 use Rattle.trail_halves.specs.Open.{half_in, halves_in, open_ends, row_of}
 use Rattle.trail_halves.proofs.Filled.{half_ends_le}
 use Rattle.trail_halves.proofs.Parted.{Alone, Parted, alone_in, columns_small, on_row, other_row, parted, stands_there}
 
 -- two pairs of lists, turned
-crossed : {X : Type 0} (a b c d : List X) → IsPermutation ((a ++ b) ++ (c ++ d)) ((a ++ c) ++ (b ++ d))
+pub crossed : {X : Type 0} (a b c d : List X) → IsPermutation ((a ++ b) ++ (c ++ d)) ((a ++ c) ++ (b ++ d))
 crossed a b c d =
     let inner : IsPermutation (b ++ (c ++ d)) (c ++ (b ++ d)) =
     subst (λ l. IsPermutation l (c ++ (b ++ d))) (append_assoc b c d)

@@ -56,7 +56,7 @@ module _ (n : ℕ) (r : Row) (pool : ℕ → Bool) where
   ]
 
   -- the nodes of a pool are those at its place
-  at_pool : (net v : ℕ) → pool net ≡ true → v < n → (net_in r v == net) ≡ (place_of n r pool v == n + net)
+  pub at_pool : (net v : ℕ) → pool net ≡ true → v < n → (net_in r v == net) ≡ (place_of n r pool v == n + net)
   at_pool net v is within = elim (cases_eq (net_in r v) net) [
     | inl e ↦
         let there : place_of n r pool v ≡ n + net =

@@ -14,6 +14,7 @@ use Rattle.trail_state.specs.declared.edge.Edge.{Edge}
 use Rattle.trail_state.specs.declared.edge.FingerEnds.{FingerEnds}
 use Rattle.trail_state.specs.Choices.{AreEdgesOf, IsChoice, fingers_on}
 use Rattle.trail_state.specs.Pairings.{nets_at}
+use Rattle.trail_halves.specs.declared.choice.OpenChoice.{OpenChoice}
 use Rattle.trail_halves.specs.Halves.{half_ends}
 
 -- the fingers of the row
@@ -38,12 +39,6 @@ is_none (Some half) = false
 
 abbrev pub is_filled : Row → Column → Bool
 is_filled r c = is_none (half_in r c)
-
--- The columns of a gate as edges and half edges. It is a choice without half edges where the gate's half columns are
--- filled with any nets.
-pub record OpenChoice : Type 0 where
-  pub edges : List Edge
-  pub halves : List FingerEnds
 
 -- the edges of some columns that arrange the fingers of the gate, and the half edges of the others
 pub record IsHalfOpen (f : Fingers) (r : Row) (gate : ℕ) (choice : OpenChoice) : Type 0 where

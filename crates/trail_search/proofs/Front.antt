@@ -87,7 +87,7 @@ end_faces row own None y = refl
 end_faces row own (Some v) None = refl
 end_faces row own (Some v) (Some y) = refl
 
--- a gap behind the column in front is what the first column costs
+-- a row that the column in front begins has as many gaps as the other columns add after the state
 pub gaps_front : (k : Kinds) (s : State) (cs : List Column) → gaps_of (front_column k s ∷ cs) ≡ further_gaps s cs
 gaps_front k s [] = refl
 gaps_front k s (c ∷ cs) =

@@ -1,5 +1,5 @@
 -- The levels of an order where gates are left open: pairs of nets, each level with the nodes of the next one.
-use Rattle.std.specs.Prelude.{ℕ, zero, suc, ◌≡◌, ◌+◌, ◌*◌, ◌<◌, ◌≤◌, ◌==◌, Bool, true, false, List, [], ◌∷◌, Some, All, AllPairs, Contains, if◌then◌else◌, length, map, slice_get}
+use Rattle.std.specs.Prelude.{ℕ, zero, suc, ◌≡◌, ◌+◌, ◌*◌, ◌<◌, ◌≤◌, ◌==◌, Bool, true, false, List, [], ◌∷◌, Some, Contains, if◌then◌else◌, length, map, slice_get}
 use Rattle.std.specs.List.{filter, range_with_len}
 use Rattle.std.proofs.Common.{refl, sym, ap, subst, arith, ◌∙◌}
 use Rattle.std.proofs.lemmas.Bool.{eqb-true}

@@ -31,7 +31,8 @@ use Rattle.trail_state.proofs.Chosen.{Drawn, IsDrawn, column_at, drawn_zip, edge
 use Rattle.trail_state.proofs.Grouped.{columns_of_gate}
 use Rattle.trail_state.proofs.Held.{finger_of_place, row_fingers}
 use Rattle.trail_state.proofs.Law.{zip_columns, zip_drawn, zip_edges}
-use Rattle.trail_state.proofs.Listed.{Before, append_from, front_from, nets_uncons, one_taken}
+use Rattle.trail_state.specs.Known.{Before}
+use Rattle.trail_state.proofs.Listed.{append_from, front_from, nets_uncons, one_taken}
 use Rattle.trail_state.proofs.Members.{passes_from}
 use Rattle.trail_state.proofs.Paired.{Listed, drop_more}
 use Rattle.trail_state.proofs.Picked.{gate_listed}

@@ -21,9 +21,12 @@ as_many : (edges : List Edge) (t : List Place) → length (fold with_edge t edge
 as_many [] t = refl
 as_many (e ∷ es) t = as_many es (with_edge t e) ∙ length-map t (joined_place (place_or_new t e.a.0) (place_or_new t e.b.0))
 
+pub no_more : (nodes next : List Node) (s : List Place) (c : List Edge) → length (closing_of next (with_edges nodes s c)) ≤ length nodes
+no_more nodes next s c =
+    omega (arith, few_kept (λ (v : Node). met_place s c v.0) nodes, as_many c (met_places nodes s c), length-filter (λ (p : Place). not (is_open next p.node.0)) (with_edges nodes s c), count_by-le-length (λ (p : Place). not (is_open next p.node.0)) (with_edges nodes s c))
+
 pub closing_few : (nodes next : List Node) (s : List Place) (c : List Edge) → length nodes ≤ 65536 → length (closing_of next (with_edges nodes s c)) ≤ 65536
-closing_few nodes next s c few =
-    omega (arith, few, few_kept (λ (v : Node). met_place s c v.0) nodes, as_many c (met_places nodes s c), length-filter (λ (p : Place). not (is_open next p.node.0)) (with_edges nodes s c), count_by-le-length (λ (p : Place). not (is_open next p.node.0)) (with_edges nodes s c))
+closing_few nodes next s c few = omega (arith, few, no_more nodes next s c)
 
 pub odd_few : (closing : List Place) → count_by (λ (p : Place). p.odd) closing ≤ length closing
 odd_few closing = count_by-le-length (λ (p : Place). p.odd) closing

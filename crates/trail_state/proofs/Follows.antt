@@ -59,7 +59,7 @@ which x y p e = elim (or_cases (p.class.0 == x.class.0) (p.class.0 == y.class.0)
   | inr b ↦ inr (eqb-true p.class.0 y.class.0 b)
 ]
 
-is_either : (x y p : Place) → (p.class.0 ≡ x.class.0) ⊎ (p.class.0 ≡ y.class.0) → is_joined x y p ≡ true
+pub is_either : (x y p : Place) → (p.class.0 ≡ x.class.0) ⊎ (p.class.0 ≡ y.class.0) → is_joined x y p ≡ true
 is_either x y p (inl a) = or_left (p.class.0 == x.class.0) (p.class.0 == y.class.0) (eq-eqb p.class.0 x.class.0 a)
 is_either x y p (inr b) = or_right (p.class.0 == x.class.0) (p.class.0 == y.class.0) (eq-eqb p.class.0 y.class.0 b)
 
@@ -91,7 +91,7 @@ module _ (e : Edge) (es left : List Edge) (nodes : List Node) (t : List Place) (
   y_at = or_new_at t e.b.0 (h.coming e (contains_here e left)).1
 
   -- a place whose node is chained with one of the ends
-  of_either : (p : Place) → Contains t p → (class_of es p.node.0 ≡ class_of es e.a.0) ⊎ (class_of es p.node.0 ≡ class_of es e.b.0) → is_joined x y p ≡ true
+  pub of_either : (p : Place) → Contains t p → (class_of es p.node.0 ≡ class_of es e.a.0) ⊎ (class_of es p.node.0 ≡ class_of es e.b.0) → is_joined x y p ≡ true
   of_either p c (inl a) = is_either x y p (inl (h.coarse p x c x_at.there (a ∙ ap (class_of es) (sym x_at.node))))
   of_either p c (inr b) = is_either x y p (inr (h.coarse p y c y_at.there (b ∙ ap (class_of es) (sym y_at.node))))
 
@@ -147,10 +147,10 @@ module _ (e : Edge) (es left : List Edge) (nodes : List Node) (t : List Place) (
       ]
 
   -- both classes of the ends have no flag
-  no_flags : (p : Place) → is_joined x y p ≡ true → (g p).flagged ≡ false → (x.flagged ≡ false) × (y.flagged ≡ false)
+  pub no_flags : (p : Place) → is_joined x y p ≡ true → (g p).flagged ≡ false → (x.flagged ≡ false) × (y.flagged ≡ false)
   no_flags p on none = or_parts x.flagged y.flagged (sym (flag_joined x y p on) ∙ none)
 
-  was_unflagged : (p : Place) → Contains t p → (g p).flagged ≡ false → p.flagged ≡ false
+  pub was_unflagged : (p : Place) → Contains t p → (g p).flagged ≡ false → p.flagged ≡ false
   was_unflagged p c none =
       elim (cases_Bool (is_joined x y p)) [
         | inl on ↦ elim (which x y p on) [

@@ -1,3 +1,4 @@
+pub mod Added
 pub mod Along
 pub mod Begun
 pub mod Blocks
@@ -8,8 +9,10 @@ pub mod Ends
 pub mod Few
 pub mod Filling
 pub mod Follows
+pub mod Fronts
 pub mod Grouped
 pub mod Held
+pub mod Known
 pub mod Law
 pub mod Links
 pub mod Listed
@@ -18,8 +21,10 @@ pub mod Opened
 pub mod Paired
 pub mod Parts
 pub mod Picked
+pub mod Rules
 pub mod Settles
 pub mod Sizes
 pub mod Small
+pub mod Swapped
 pub mod Unions
 pub mod Walks

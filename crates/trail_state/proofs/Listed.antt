@@ -13,6 +13,7 @@ use Rattle.trail_state.specs.declared.edge.FingerEnds.{FingerEnds}
 use Rattle.trail_state.specs.declared.front.Part.{Part}
 use Rattle.trail_state.specs.declared.gate.Gate.{Gate}
 use Rattle.trail_state.specs.Fronts.{is_same, next_front, next_parts, same_nets, with_all, with_new, without}
+use Rattle.trail_state.specs.Known.{Before}
 use Rattle.trail_state.specs.Same.{nets_decides, nets_same, part_same}
 
 new_there : (parts : List Part) (p : Part) → Contains (with_new parts p) p
@@ -29,11 +30,11 @@ new_keeps parts q p there = elim (cases_Bool (list_any (is_same q) parts)) [
   | inr fresh ↦ subst (λ l. Contains l p) (sym (ap (λ b. if b then parts else parts ++ q ∷ []) fresh)) (Contains-append_left parts (q ∷ []) p there)
 ]
 
-all_kept : (more parts : List Part) (p : Part) → Contains parts p → Contains (with_all parts more) p
+pub all_kept : (more parts : List Part) (p : Part) → Contains parts p → Contains (with_all parts more) p
 all_kept [] parts p there = there
 all_kept (q ∷ more) parts p there = all_kept more (with_new parts q) p (new_keeps parts q p there)
 
-each_there : (more parts : List Part) (p : Part) → Contains more p → Contains (with_all parts more) p
+pub each_there : (more parts : List Part) (p : Part) → Contains more p → Contains (with_all parts more) p
 each_there [] parts p there = absurd (contains_none p there)
 each_there (q ∷ more) parts p there = elim (contains_cons q more p there) [
   | inl same ↦ all_kept more (with_new parts q) p (subst (Contains (with_new parts q)) same (new_there parts q))
@@ -83,12 +84,6 @@ all_from (q ∷ more) parts p there = elim (all_from more (with_new parts q) p t
   ]
   | inr later ↦ inr (contains_there q more p later)
 ]
-
--- a part of the front that this one is with a column more
-pub record Before (gate : Gate) (xs : List FingerEnds) (front : List Part) (p : Part) : Type 0 where
-  pub part : Part
-  pub there : Contains front part
-  pub next : Contains (next_parts gate xs part) p
 
 each_from : (gate : Gate) (xs : List FingerEnds) (front parts : List Part) (p : Part) → Contains (behind gate xs parts front) p → Contains parts p ⊎ Before gate xs front p
 each_from gate xs [] parts p there = inl there

@@ -1,6 +1,6 @@
 -- Parts added one by one: fingers left without one of them, and that parts grow more and more.
-use Rattle.std.proofs.Common.{ℕ, suc, ◌≡◌, ◌+◌, ◌<◌, ◌≤◌, ◌||◌, Bool, true, false, if◌then◌else◌, List, [], ◌∷◌, ◌++◌, Option, Some, None, length, length-append, append-nil, drop, fold, get_or, map, map-id, take, refl, sym, ap, arith, ◌∙◌, inl, inr, Contains}
-use Rattle.std.specs.List.{after_first, before_first, flat_map, list_any, position, position_or_len, range_with_len, remove}
+use Rattle.std.proofs.Common.{ℕ, suc, ◌≡◌, ◌+◌, ◌<◌, ◌≤◌, ◌||◌, Bool, true, false, if◌then◌else◌, List, [], ◌∷◌, ◌++◌, Some, None, length, length-append, append-nil, drop, fold, get_or, map, map-id, take, refl, sym, ap, arith, ◌∙◌, inl, inr, Contains}
+use Rattle.std.specs.List.{after_first, flat_map, list_any, position, position_or_len, range_with_len, remove}
 use Rattle.std.specs.Prelude.{ltb}
 use Rattle.std.proofs.lemmas.Bool.{cases_Bool, ltb-false, or_left, or_right}
 use Rattle.std.proofs.lemmas.Grind.{flat_map-append}

@@ -1,5 +1,5 @@
 -- The nodes that pass one test or another are those of both lists merged.
-use Rattle.std.proofs.Common.{ℕ, suc, zero, ◌≡◌, ◌+◌, ◌*◌, ◌<◌, ◌||◌, Bool, true, false, cond, List, [], ◌∷◌, ◌++◌, length, get_or, map, take, refl, sym, ap, arith, ◌∙◌}
+use Rattle.std.proofs.Common.{ℕ, suc, zero, ◌≡◌, ◌+◌, ◌*◌, ◌<◌, ◌||◌, Bool, true, false, cond, List, [], ◌∷◌, ◌++◌, None, Some, length, get_or, map, take, refl, sym, ap, arith, ◌∙◌}
 use Rattle.std.specs.Cmp.{nat_cmp_is}
 use Rattle.std.specs.declared.cmp.Ordering.TheVariants.{Less, Equal, Greater}
 use Rattle.std.specs.List.{filter, range_with_len}
@@ -10,15 +10,18 @@ use Rattle.cell_num.specs.declared.net.NetNo.{NetNo}
 use Rattle.cell_num.specs.declared.finger.Fingers.{Fingers}
 use Rattle.trail_state.specs.declared.edge.Node.{Node}
 use Rattle.trail_state.specs.Places.{node_at}
-use Rattle.trail_state.specs.Levels.{AreLevels, first_now}
+use Rattle.trail_state.specs.Levels.{AreLevels, StopsAt, first_long, first_now}
 use Rattle.trail_state.specs.declared.level.Level.{Level}
+use Rattle.trail_state.specs.declared.level.LevelStop.{LevelStop}
+use Rattle.trail_state.specs.declared.level.LevelStop.TheVariants as stop
 use Rattle.trail_state.specs.Nodes.{any_can_meet, can_meet, node_cmp, nodes_of, open_nodes}
+use Rattle.trail_state.specs.Pairings.{has_long_front}
 use Rattle.trail_state.proofs.Blocks.{none_pass}
 
-abbrev nodes_from : (ℕ → Bool) → ℕ → ℕ → List Node
+abbrev pub nodes_from : (ℕ → Bool) → ℕ → ℕ → List Node
 nodes_from p a n = map node_at (filter p (range_with_len a n))
 
-abbrev merged : List Node → List Node → List Node
+abbrev pub merged : List Node → List Node → List Node
 merged xs ys = sorted_merge node_cmp true xs ys
 
 -- the nodes begin behind this number
@@ -49,7 +52,7 @@ second_goes y (x ∷ xs) ys less = rw (sym (nat_cmp_is x.0 y Greater less)) refl
 both_go : (x : ℕ) (xs ys : List Node) → merged (node_at x ∷ xs) (node_at x ∷ ys) ≡ node_at x ∷ merged xs ys
 both_go x xs ys = rw (sym (nat_cmp_is x x Equal refl)) refl
 
-merged_tests : (p q : ℕ → Bool) (a n : ℕ) → merged (nodes_from p a n) (nodes_from q a n) ≡ nodes_from (λ v. p v || q v) a n
+pub merged_tests : (p q : ℕ → Bool) (a n : ℕ) → merged (nodes_from p a n) (nodes_from q a n) ≡ nodes_from (λ v. p v || q v) a n
 merged_tests p q a zero = refl
 merged_tests p q a (suc n) = at (p a) (q a) (merged_tests p q (a + 1) n)
   where
@@ -94,3 +97,19 @@ first_is f [] [] are = sym (no_gates f)
 first_is f (g ∷ gs) (l ∷ ls) are = are.0.now
 first_is f [] (l ∷ ls) are = absurd are
 first_is f (g ∷ gs) [] are = absurd are
+
+-- ---- the first gate with too many ways
+
+pub none_long : (most : ℕ) (f : Fingers) (order : List NetNo) → length order ≡ 0 → first_long most f order ≡ None
+none_long most f [] none = refl
+none_long most f (g ∷ gs) none = absurd (omega (arith, none))
+
+pub long_first : (most : ℕ) (f : Fingers) (gate : NetNo) (later : List NetNo) → has_long_front most f gate.0 ≡ true → first_long most f (gate ∷ later) ≡ Some gate
+long_first most f gate later on = ap (λ b. cond b (Some gate) (first_long most f later)) on
+
+pub long_later : (most : ℕ) (f : Fingers) (gate : NetNo) (later : List NetNo) → has_long_front most f gate.0 ≡ false → first_long most f (gate ∷ later) ≡ first_long most f later
+long_later most f gate later off = ap (λ b. cond b (Some gate) (first_long most f later)) off
+
+pub stops_later : (most : ℕ) (f : Fingers) (gate : NetNo) (later : List NetNo) (why : LevelStop) → has_long_front most f gate.0 ≡ false → StopsAt most f later why → StopsAt most f (gate ∷ later) why
+stops_later most f gate later (stop.Long other) off first = long_later most f gate later off ∙ first
+stops_later most f gate later stop.NoMemory off done = tt

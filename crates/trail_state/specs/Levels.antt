@@ -1,5 +1,5 @@
 -- The gates of an order with their choices, and the ends of trails that every list of choices results in.
-use Rattle.std.specs.Prelude.{ℕ, ◌≡◌, ◌≢◌, ◌+◌, ◌-◌, ◌<◌, List, [], ◌∷◌, AllPairs, All, Contains}
+use Rattle.std.specs.Prelude.{ℕ, ◌≡◌, ◌≢◌, ◌+◌, ◌-◌, ◌<◌, List, [], ◌∷◌, Option, Some, AllPairs, All, Contains, find}
 use Rattle.cell_num.specs.declared.net.NetNo.{NetNo}
 use Rattle.cell_num.specs.declared.finger.Fingers.{Fingers}
 use Rattle.cell_num.specs.Fingers.{on_gate}
@@ -8,7 +8,9 @@ use Rattle.trail_state.specs.declared.edge.Edge.{Edge}
 use Rattle.trail_state.specs.declared.state.Place.{Place}
 use Rattle.trail_state.specs.Settling.{ends_after, state_after}
 use Rattle.trail_state.specs.declared.level.Level.{Level}
-use Rattle.trail_state.specs.Pairings.{choices_of}
+use Rattle.trail_state.specs.declared.level.LevelStop.{LevelStop}
+use Rattle.trail_state.specs.declared.level.LevelStop.TheVariants as stop
+use Rattle.trail_state.specs.Pairings.{choices_of, has_long_front}
 use Rattle.trail_state.specs.Nodes.{open_nodes}
 
 -- a gate of some finger
@@ -35,6 +37,15 @@ abbrev pub AreLevels : Fingers → List NetNo → List Level → Type 0
 AreLevels f [] [] = Unit {0}
 AreLevels f (g ∷ gs) (l ∷ ls) = IsLevel f g gs l × AreLevels f gs ls
 AreLevels f _ _ = ⊥
+
+-- the first gate of the order with more ways than that to pair the fingers of its first columns
+abbrev pub first_long : ℕ → Fingers → List NetNo → Option NetNo
+first_long most f order = find (λ (gate : NetNo). has_long_front most f gate.0) order
+
+-- the levels of the order are not listed for this cause
+abbrev pub StopsAt : ℕ → Fingers → List NetNo → LevelStop → Type 0
+StopsAt most f order (stop.Long gate) = first_long most f order ≡ Some gate
+StopsAt most f order stop.NoMemory = Unit {0}
 
 -- from the state on, each list of choices, one of each gate, results in at least that many ends
 abbrev pub Ends : List Level → List Place → ℕ → Type 0

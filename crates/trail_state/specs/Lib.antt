@@ -7,6 +7,7 @@ pub mod Settling
 pub mod Choices
 pub mod Edges
 pub mod Fronts
+pub mod Known
 pub mod Places
 pub mod Same
 pub mod Sorted

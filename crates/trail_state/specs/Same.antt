@@ -1,6 +1,7 @@
 -- Tests of whether edges, fingers' nets and parts are equal decide it.
-use Rattle.std.proofs.Common.{ℕ, ◌≡◌, ◌==◌, ◌&&◌, true, List, refl, ap, ◌∙◌}
+use Rattle.std.proofs.Common.{ℕ, ◌≡◌, ◌==◌, Bool, true, false, List, refl, sym, ap, ◌∙◌}
 use Rattle.std.specs.Bool.{Decides}
+use Rattle.std.specs.Cmp.{IsEquivalence, IsPartialEquivalence, partial_equiv_from_equiv}
 use Rattle.std.specs.Cmp.Lexicographic.{pointwise, pointwise_decides}
 use Rattle.std.proofs.lemmas.Bool.{and_from, and_parts, eq-eqb, eqb-true}
 use Rattle.trail_state.specs.declared.edge.Edge.{Edge}
@@ -71,3 +72,21 @@ part_decides p q =
       λ same. and_from (pointwise same_edge p.edges q.edges) (pointwise same_nets p.left q.left)
           (edges.1 (ap (λ (x : Part). x.edges) same)) (left.1 (ap (λ (x : Part). x.left) same)),
     )
+
+is_same_back : (p q : Part) → is_same p q ≡ true → is_same q p ≡ true
+is_same_back p q h = (part_decides q p).1 (sym (part_same p q h))
+
+either_way : (b c : Bool) → (b ≡ true → c ≡ true) → (c ≡ true → b ≡ true) → b ≡ c
+either_way true c f g = sym (f refl)
+either_way false true f g = g refl
+either_way false false f g = refl
+
+pub parts_equiv : IsEquivalence is_same
+parts_equiv = record {
+  refl = λ p. (part_decides p p).1 refl;
+  symm = λ p q. either_way (is_same p q) (is_same q p) (is_same_back p q) (is_same_back q p);
+  congr = λ p q r h. ap (λ (x : Part). is_same x r) (part_same p q h);
+}
+
+pub parts_per : IsPartialEquivalence is_same
+parts_per = partial_equiv_from_equiv parts_equiv

@@ -26,7 +26,8 @@ fn nets_at(finger: &Finger) -> FingerEnds
     }
 }
 
-fn all_nets(alloc: Global, fingers: &[Finger]) -> Result<Vec<FingerEnds>, AllocError>
+/// The nets at the ends of each finger.
+pub fn all_nets(alloc: Global, fingers: &[Finger]) -> Result<Vec<FingerEnds>, AllocError>
     requires { All HasSmallEnds fingers.now }
     ensures { IfOk result (λ all. all.items ≡ map nets_at fingers.now) }
 {

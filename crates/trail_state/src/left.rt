@@ -12,7 +12,7 @@ fn find(nets: FingerEnds, left: &[FingerEnds]) -> Option<usize>
 
 /// All but the first with these nets.
 #[tactic(auto, using(crate::proofs::Parts::one_less, crate::proofs::Parts::none_less))]
-pub(crate) fn without(
+pub fn without(
     alloc: Global,
     nets: FingerEnds,
     left: &[FingerEnds],

@@ -2,12 +2,15 @@
 // the nodes that later gates can meet, what a choice leaves open, and the ends that no row escapes.
 #![tactic(auto)]
 
+mod alone;
+mod beside;
+mod columns;
 pub mod edge;
 mod edges;
 mod front;
-mod gate;
+pub mod gate;
 pub mod laws;
-mod left;
+pub mod left;
 pub mod level;
 mod listing;
 pub mod nodes;
@@ -17,8 +20,8 @@ pub mod state;
 
 pub use edge::{Choice, Edge, Node};
 pub use edges::{between, insert};
-pub use level::{Level, levels};
+pub use level::{Level, LevelStop, levels, levels_within};
 pub use nodes::{count_on, open_nodes};
-pub use pairing::{choices, has_long_front};
+pub use pairing::{choices, choices_within, has_long_front};
 pub use settle::{Settled, after};
 pub use state::{Place, TrailState};

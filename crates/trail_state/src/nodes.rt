@@ -47,11 +47,7 @@ fn is_net_in(fingers: &[Finger], net: u32) -> bool
 }
 
 /// The fingers of a list that are on the gate.
-pub(crate) fn on_gate(
-    alloc: Global,
-    gate: u32,
-    fingers: &[Finger],
-) -> Result<Vec<Finger>, AllocError>
+pub fn on_gate(alloc: Global, gate: u32, fingers: &[Finger]) -> Result<Vec<Finger>, AllocError>
     ensures { IfOk result (λ on. on.items ≡ filter (is_on gate) fingers.now) }
 {
     fingers
@@ -138,8 +134,8 @@ fn nodes_of(alloc: Global, fingers: &Fingers, gate: u32) -> Result<Vec<Node>, Al
     Ok(nodes)
 }
 
-// Two ascending lists of nodes in one, each node once.
-fn merge(alloc: Global, a: &[Node], b: &[Node]) -> Result<Vec<Node>, AllocError>
+/// Two ascending lists of nodes in one, each node once.
+pub fn merge(alloc: Global, a: &[Node], b: &[Node]) -> Result<Vec<Node>, AllocError>
     ensures { IfOk result (λ all. all.items ≡ sorted_merge node_cmp true a.now b.now) }
 {
     let mut all = Vec::new(alloc);

@@ -1,4 +1,4 @@
-ghost use Rattle.std.specs.Prelude.{◌≡◌, IfOk};
+ghost use Rattle.std.specs.Prelude.{◌≡◌, true, false, IfNone, IfOk, IfSome};
 ghost use Rattle.cell_num.specs.Fingers.{AreFingers};
 ghost use Rattle.trail_state.specs.Pairings.{choices_of, has_long_front};
 
@@ -33,4 +33,22 @@ pub fn has_long_front(
     let gate = gate_of(alloc, fingers, gate.0)?;
     let long = listing::has_long_front(alloc, &gate, most)?;
     Ok(long)
+}
+
+/// The choices of a gate, where after none of its columns there are more than `most` ways to pair its fingers so far,
+/// as [`has_long_front`] counts them; else none. It takes the memory that this call does.
+pub fn choices_within(
+    alloc: Global,
+    fingers: &Fingers,
+    gate: NetNo,
+    most: usize,
+) -> Result<Option<List<Choice>>, NoMemory>
+    requires { AreFingers fingers.now }
+    ensures all { IfOk result (λ o. IfSome o (λ all. all ≡ choices_of fingers.now gate.0)) }
+    ensures few { IfOk result (λ o. IfSome o (λ _. has_long_front most fingers.now gate.0 ≡ false)) }
+    ensures many { IfOk result (λ o. IfNone o (has_long_front most fingers.now gate.0 ≡ true)) }
+{
+    let gate = gate_of(alloc, fingers, gate.0)?;
+    let all = listing::choices_within(alloc, &gate, most)?;
+    Ok(all)
 }

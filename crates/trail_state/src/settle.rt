@@ -16,13 +16,15 @@ pub struct Settled {
     pub ends: u32,
 }
 
-fn is_in(nodes: &[Node], node: &Node) -> bool
+/// Whether the node is one of these.
+pub fn is_in(nodes: &[Node], node: &Node) -> bool
     ensures { result ≡ is_open nodes.now node.now.0 }
 {
     nodes.iter().any(|other| *other == *node)
 }
 
-fn keep(alloc: Global, nodes: &[Node], places: &[Place]) -> Result<Vec<Place>, AllocError>
+/// The places at these nodes, which later gates can meet.
+pub fn keep(alloc: Global, nodes: &[Node], places: &[Place]) -> Result<Vec<Place>, AllocError>
     ensures { IfOk result (λ all. all.items ≡ kept_of nodes.now places.now) }
 {
     places
@@ -32,7 +34,8 @@ fn keep(alloc: Global, nodes: &[Node], places: &[Place]) -> Result<Vec<Place>, A
         .collect(alloc)
 }
 
-fn close(alloc: Global, nodes: &[Node], places: &[Place]) -> Result<Vec<Place>, AllocError>
+/// The places at other nodes, which no later gate can meet.
+pub fn close(alloc: Global, nodes: &[Node], places: &[Place]) -> Result<Vec<Place>, AllocError>
     ensures { IfOk result (λ all. all.items ≡ closing_of nodes.now places.now) }
 {
     places
@@ -42,7 +45,8 @@ fn close(alloc: Global, nodes: &[Node], places: &[Place]) -> Result<Vec<Place>, 
         .collect(alloc)
 }
 
-fn has_class_in(places: &[Place], class: &Node) -> bool
+/// Whether one of the places is of the class.
+pub fn has_class_in(places: &[Place], class: &Node) -> bool
     ensures { result ≡ has_class places.now class.now.0 }
 {
     places.iter().any(|place| place.class == *class)
@@ -90,7 +94,8 @@ fn count_ends(kept: &[Place], closing: &[Place]) -> u32
     (odd + 2 * closed) as u32
 }
 
-fn name(kept: &[Place], place: &Place) -> Node
+/// The first of these places that is of the place's class names the class.
+pub fn name(kept: &[Place], place: &Place) -> Node
     ensures { result ≡ name_in kept.now place.now }
 {
     kept.iter()

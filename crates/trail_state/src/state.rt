@@ -122,8 +122,8 @@ fn add(alloc: Global, places: &[Place], edge: &Edge) -> Result<Vec<Place>, Alloc
         .collect(alloc)
 }
 
-// All nodes met, once the edges have joined their classes.
-pub(crate) fn add_all(
+/// The places of the state and of the edges at these nodes, once the edges have joined their classes.
+pub fn add_all(
     alloc: Global,
     nodes: &[Node],
     places: &[Place],
