@@ -1,11 +1,11 @@
 -- Of the tracks before a line those of the open nets alone count.
-use Rattle.std.proofs.Common.{ℕ, ◌≡◌, ◌⊎◌, ◌&&◌, ◌||◌, ltb, not, Bool, true, false, List, [], ◌∷◌, inl, inr, sym, arith, ◌∙◌}
+use Rattle.std.proofs.Common.{ℕ, ◌≡◌, ◌⊎◌, ◌&&◌, ◌||◌, ltb, not, Bool, true, false, inl, inr, sym, arith, ◌∙◌}
 use Rattle.cell_num.specs.declared.net.NetNo.{NetNo}
 use Rattle.cell_num.specs.declared.net.Pins.{Pins}
 use Rattle.cell_num.specs.Pins.{is_rail}
 use Rattle.track_ways.specs.declared.line.Line.{Line}
-use Rattle.track_ways.specs.Lines.{has_place, is_twice, is_ahead, Agrees}
-use Rattle.piece_lines.specs.Lines.{IsOn, PieceLineFits, PieceSweeps}
+use Rattle.track_ways.specs.Lines.{Agrees, has_place, is_twice}
+use Rattle.piece_lines.specs.Lines.{IsOn, PieceLineFits}
 
 pub fits_again : (pins : Pins) (limit : ℕ) (before : NetNo → Bool) (line : Line) (after : NetNo → Bool) (into other out : NetNo → ℕ) → Agrees pins before (λ net. has_place line net || after net) other into → PieceLineFits pins limit into before line after out → PieceLineFits pins limit other before line after out
 fits_again pins limit before line after into other out agrees f = record {
@@ -27,7 +27,3 @@ fits_again pins limit before line after into other out agrees f = record {
         by : ((before net ≡ true) × (track ≡ other net)) ⊎ (((before net ≡ false) ⊎ (after net ≡ true)) × (track ≡ out net)) → ((before net ≡ true) × (track ≡ into net)) ⊎ (((before net ≡ false) ⊎ (after net ≡ true)) × (track ≡ out net))
         by (inl (early, is)) = inl (early, is ∙ sym (agrees net (comes (not (is_rail pins net)) (before net) (after net) (has_place line net) (before net || (after net || (is_twice line net || ltb net.0 pins.pins))) o.held early)))
         by (inr goes) = inr goes
-
-pub sweeps_again : (pins : Pins) (limit : ℕ) (before : NetNo → Bool) (track other : NetNo → ℕ) (lines : List Line) → Agrees pins before (is_ahead lines) other track → PieceSweeps pins limit before track lines → PieceSweeps pins limit before other lines
-sweeps_again pins limit before track other [] agrees s = tt
-sweeps_again pins limit before track other (line ∷ rest) agrees (out, fits, more) = (out, fits_again pins limit before line (is_ahead rest) track other out agrees fits, more)

@@ -6,8 +6,6 @@ pub mod Kept
 pub mod Listed
 pub mod OnLines
 pub mod OnPaths
-pub mod Parts
-pub mod Runs
 pub mod Steady
 pub mod Straight
 pub mod Swept

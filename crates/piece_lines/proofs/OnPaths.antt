@@ -1,9 +1,8 @@
 -- Legal routings of a row by pieces and tracks along its path of states.
-use Rattle.std.proofs.Common.{ℕ, ◌≡◌, ◌<◌, ◌≤◌, ◌⊎◌, ◌&&◌, ◌||◌, not, Bool, true, false, List, [], ◌∷◌, map, length, inl, inr, sym, subst, arith, ◌∙◌}
+use Rattle.std.proofs.Common.{ℕ, ◌≡◌, ◌<◌, ◌≤◌, ◌⊎◌, Bool, true, List, [], map, length, inl, inr, sym, subst, arith}
 use Rattle.std.proofs.lemmas.Bool.{cases_lt}
 use Rattle.cell_num.specs.declared.net.NetNo.{NetNo}
 use Rattle.cell_num.specs.declared.net.Pins.{Pins}
-use Rattle.cell_num.specs.Pins.{is_rail}
 use Rattle.cell_num.specs.declared.finger.Fingers.{Fingers}
 use Rattle.row_model.specs.declared.column.Column.{Column}
 use Rattle.row_model.specs.Arrangement.{IsArrangement}
@@ -15,28 +14,24 @@ use Rattle.row_state.specs.declared.state.State.{State}
 use Rattle.row_state.specs.declared.step.Step.{Step}
 use Rattle.row_state.specs.Completion.{Completes}
 use Rattle.row_state.specs.Start.{start_of, GatesAreNets, AreKinds}
-use Rattle.row_state.specs.Steps.{column_of, state_after}
-use Rattle.row_state.proofs.Unfold.{unfold_from, completion_of}
+use Rattle.row_state.specs.Steps.{column_of}
+use Rattle.row_state.proofs.Unfold.{completion_of}
 use Rattle.dogleg_route.specs.declared.piece.PieceRouting.{PieceRouting}
 use Rattle.dogleg_route.specs.Routings.{ArePiecesLegal}
-use Rattle.track_ways.specs.declared.line.Line.{Line}
-use Rattle.track_ways.specs.Lines.{has_place, is_ahead, Agrees}
+use Rattle.track_ways.specs.Lines.{is_ahead}
 use Rattle.track_ways.specs.Channel.{AreLinesOf}
-use Rattle.track_ways.specs.Rows.{lines_of_row, node_line}
-use Rattle.track_ways.specs.States.{is_behind, is_still_ahead, is_open_at}
-use Rattle.track_ways.specs.Paths.{lines_to, Leads}
-use Rattle.track_ways.proofs.Behind.{ahead_of_state}
-use Rattle.track_ways.proofs.LineParts.{or_none}
-use Rattle.track_ways.proofs.Path.{completes, StepsOf, steps_of}
+use Rattle.track_ways.specs.Rows.{lines_of_row}
+use Rattle.track_ways.specs.States.{is_open_at}
+use Rattle.track_ways.specs.Paths.{Leads}
+use Rattle.track_ways.proofs.Path.{StepsOf, completes, runs, steps_of, sweeps_of}
 use Rattle.track_ways.proofs.Placed.{lines_placed}
-use Rattle.track_ways.proofs.Whole.{start_behind, start_fits, still_ahead}
-use Rattle.piece_lines.specs.Lines.{PieceSweeps, PiecePasses}
+use Rattle.track_ways.proofs.Whole.{again_by, start_behind, start_fits}
+use Rattle.piece_lines.specs.Lines.{PieceLineFits, PieceSweeps}
 use Rattle.piece_lines.specs.Paths.{PieceRuns}
 use Rattle.piece_lines.specs.Within.{routing_on}
 use Rattle.piece_lines.proofs.Again.{fits_again}
 use Rattle.piece_lines.proofs.Fewest.{legal}
 use Rattle.piece_lines.proofs.Listed.{Within, pieces_of_sweeps}
-use Rattle.piece_lines.proofs.Runs.{runs, sweeps_of}
 use Rattle.piece_lines.proofs.Swept.{legal_sweeps}
 
 abbrev pub row_of : Kinds → List Step → List Column
@@ -47,13 +42,16 @@ lines_are k steps nets leads few = let whole : Completes k (start_of k) (row_of 
 
 -- to a path from the start, and back
 pub to_path : (pins : Pins) (k : Kinds) (steps : List Step) (limit : ℕ) (track : NetNo → ℕ) → GatesAreNets k → Leads k (start_of k) steps → PieceSweeps pins limit (is_ahead []) track (lines_of_row (row_of k steps)) → PieceRuns pins limit k (start_of k) track steps
-to_path pins k steps limit track nets leads s = runs pins limit k (start_of k) track steps nets leads (start_fits k) (subst (λ (b : NetNo → Bool). PieceSweeps pins limit b track (lines_of_row (row_of k steps))) (start_behind k) s)
+to_path pins k steps limit track nets leads s = runs PieceLineFits pins limit k (start_of k) track steps nets leads (start_fits k) (subst (λ (b : NetNo → Bool). PieceSweeps pins limit b track (lines_of_row (row_of k steps))) (start_behind k) s)
 
 pub from_path : (pins : Pins) (k : Kinds) (steps : List Step) (limit : ℕ) (track : NetNo → ℕ) → GatesAreNets k → Leads k (start_of k) steps → PieceRuns pins limit k (start_of k) track steps → PieceSweeps pins limit (is_ahead []) track (lines_of_row (row_of k steps))
-from_path pins k steps limit track nets leads r = subst (λ (b : NetNo → Bool). PieceSweeps pins limit b track (lines_of_row (row_of k steps))) (sym (start_behind k)) (sweeps_of pins limit k (start_of k) track steps nets leads (start_fits k) r)
+from_path pins k steps limit track nets leads r = subst (λ (b : NetNo → Bool). PieceSweeps pins limit b track (lines_of_row (row_of k steps))) (sym (start_behind k)) (sweeps_of PieceLineFits fits_again pins limit k (start_of k) track steps nets leads (start_fits k) r)
 
 -- a legal routing of a row gives tracks along its path
-pub path_of : (pins : Pins) (k : Kinds) (steps : List Step) (r : PieceRouting) (limit : ℕ) (track : NetNo → ℕ) → GatesAreNets k → Leads k (start_of k) steps → length (row_of k steps) ≤ 32 → ArePiecesLegal (placement_of (row_of k steps)) pins r → r.tracks ≤ limit → PieceRuns pins limit k (start_of k) track steps
+pub path_of : (pins : Pins) (k : Kinds) (steps : List Step) (r : PieceRouting) (limit : ℕ) (track : NetNo → ℕ) →
+    GatesAreNets k → Leads k (start_of k) steps → length (row_of k steps) ≤ 32 →
+    ArePiecesLegal (placement_of (row_of k steps)) pins r → r.tracks ≤ limit →
+    PieceRuns pins limit k (start_of k) track steps
 path_of pins k steps r limit track nets leads few l enough =
     to_path pins k steps limit track nets leads (legal_sweeps (placement_of (row_of k steps)) pins (lines_of_row (row_of k steps)) (lines_are k steps nets leads few) r l limit enough track)
 
@@ -78,25 +76,6 @@ legal_path pins k steps limit track nets leads few pinned r none =
     let w : Within (placement_of (row_of k steps)) pins limit = pieces_of_sweeps (placement_of (row_of k steps)) pins (lines_of_row (row_of k steps)) h pinned limit track (from_path pins k steps limit track nets leads r) in
     (w.list, legal (placement_of (row_of k steps)) pins (lines_of_row (row_of k steps)) h limit w.list w.are (λ fewer other less s. none other fewer less (to_path pins k steps fewer other nets leads s)))
 
-pub passes_again : (pins : Pins) (limit : ℕ) (before : NetNo → Bool) (track other : NetNo → ℕ) (xs : List Line) (after : NetNo → Bool) (last : NetNo → ℕ) → Agrees pins before (λ net. is_ahead xs net || after net) other track → PiecePasses pins limit before track xs after last → PiecePasses pins limit before other xs after last
-passes_again pins limit before track other [] after last a p = λ net o. p net o ∙ a net o
-passes_again pins limit before track other (line ∷ xs) after last a (out, fits, more) = (out, fits_again pins limit before line (λ net. is_ahead xs net || after net) track other out (λ net o. a net (regroup (not (is_rail pins net)) (before net) (has_place line net) (is_ahead xs net) (after net) o)) fits, more)
-  where
-    regroup : (r b p a t : Bool) → (r && (b && (p || (a || t)))) ≡ true → (r && (b && ((p || a) || t))) ≡ true
-    regroup r b p a t e = grind (arith, e)
-
 -- of what is before a state the tracks of its open nets alone count
 pub again : (pins : Pins) (limit : ℕ) (k : Kinds) (s : State) (track other : NetNo → ℕ) (steps : List Step) → GatesAreNets k → Leads k s steps → ((net : NetNo) → is_open_at pins k s net ≡ true → track net ≡ other net) → PieceRuns pins limit k s track steps → PieceRuns pins limit k s other steps
-again pins limit k s track other [] nets leads same (last, passes) = (
-  last,
-  passes_again pins limit (is_behind k s) track other (node_line s.p_end s.n_end ∷ []) (λ net. false) last
-      (λ net o. same net (subst (λ (b : Bool). (not (is_rail pins net) && (is_behind k s net && b)) ≡ true) (or_none (is_ahead (node_line s.p_end s.n_end ∷ []) net) ∙ ahead_of_state k [] s net leads) o)) passes,
-)
-again pins limit k s track other (step ∷ steps) nets leads same (next, goes, more) =
-    let after : Completes k (state_after k s step) (row_of k steps) = completes k (state_after k s step) steps nets leads.1 in
-    let whole : Completes k s (column_of k step ∷ row_of k steps) = unfold_from k s step (row_of k steps) nets leads.0 after in (
-      next,
-      passes_again pins limit (is_behind k s) track other (lines_to s (column_of k step)) (is_still_ahead k (state_after k s step)) next
-          (λ net o. same net (subst (λ (b : Bool). (not (is_rail pins net) && (is_behind k s net && b)) ≡ true) (still_ahead k s step (row_of k steps) net whole after) o)) goes,
-      more,
-    )
+again = again_by PieceLineFits fits_again

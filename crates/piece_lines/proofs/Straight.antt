@@ -25,4 +25,4 @@ straight_line pins limit before track line after f = record {
 
 pub straight_sweeps : (pins : Pins) (limit : ℕ) (before : NetNo → Bool) (track : NetNo → ℕ) (lines : List Line) → Sweeps pins limit before track lines → PieceSweeps pins limit before track lines
 straight_sweeps pins limit before track [] s = tt
-straight_sweeps pins limit before track (line ∷ rest) (next, agrees, fits, more) = (next, fits_again pins limit before line (is_ahead rest) next track next agrees (straight_line pins limit before next line (is_ahead rest) fits), straight_sweeps pins limit (with_line before line) next rest more)
+straight_sweeps pins limit before track (line ∷ rest) (next, f, more) = (next, fits_again pins limit before line (is_ahead rest) next track next f.same (straight_line pins limit before next line (is_ahead rest) f.fits), straight_sweeps pins limit (with_line before line) next rest more)

@@ -1,9 +1,9 @@
 -- A channel line by line where a net may change its track at its node lines: the tracks of its pieces at a line.
-use Rattle.std.specs.Prelude.{ℕ, ◌≡◌, ◌≢◌, ◌<◌, ◌⊎◌, ◌||◌, Bool, true, false, List, [], ◌∷◌, Some}
+use Rattle.std.specs.Prelude.{ℕ, ◌≡◌, ◌≢◌, ◌<◌, ◌⊎◌, ◌||◌, Bool, true, false, List, Some}
 use Rattle.cell_num.specs.declared.net.NetNo.{NetNo}
 use Rattle.cell_num.specs.declared.net.Pins.{Pins}
 use Rattle.track_ways.specs.declared.line.Line.{Line}
-use Rattle.track_ways.specs.Lines.{is_net, is_ahead, with_line, is_open, is_held, Agrees}
+use Rattle.track_ways.specs.Lines.{PassesBy, SweepsBy, is_held, is_net, is_open}
 
 -- the net has a node place at the line, where one piece of it may end and the next one begin
 abbrev pub may_turn : Line → NetNo → Bool
@@ -35,16 +35,9 @@ pub record PieceLineFits
 
 -- tracks line by line: those out of a line are those into the next one, of which the ones of open nets alone count
 abbrev pub PieceSweeps : Pins → ℕ → (NetNo → Bool) → (NetNo → ℕ) → List Line → Type 0
-PieceSweeps pins limit before into [] = Unit {0}
-PieceSweeps pins limit before into (line ∷ rest) =
-    (out : NetNo → ℕ) × PieceLineFits pins limit into before line (is_ahead rest) out
-    × PieceSweeps pins limit (with_line before line) out rest
+PieceSweeps = SweepsBy PieceLineFits
 
--- The same through some lines, from tracks before them to tracks after them; `after` has the nets with a place after
--- them.
+-- the same through some lines, from tracks before them to tracks after them
 abbrev pub PiecePasses :
     Pins → ℕ → (NetNo → Bool) → (NetNo → ℕ) → List Line → (NetNo → Bool) → (NetNo → ℕ) → Type 0
-PiecePasses pins limit before into [] after last = Agrees pins before after into last
-PiecePasses pins limit before into (line ∷ rest) after last =
-    (out : NetNo → ℕ) × PieceLineFits pins limit into before line (λ net. is_ahead rest net || after net) out
-    × PiecePasses pins limit (with_line before line) out rest after last
+PiecePasses = PassesBy PieceLineFits

@@ -1,9 +1,2 @@
-pub mod Complete
-pub mod Crowded
-pub mod Exact
 pub mod Failing
-pub mod Fits
-pub mod Keys
 pub mod Listing
-pub mod Steps
-pub mod Through

@@ -1,17 +1,12 @@
 -- States from which no completion with that many further gaps has tracks of pieces below a limit.
-use Rattle.std.specs.Prelude.{ℕ, ◌≤◌, List, map}
+use Rattle.std.specs.Prelude.{ℕ}
 use Rattle.cell_num.specs.declared.net.NetNo.{NetNo}
 use Rattle.cell_num.specs.declared.net.Pins.{Pins}
 use Rattle.row_state.specs.declared.kind.Kinds.{Kinds}
 use Rattle.row_state.specs.declared.state.State.{State}
-use Rattle.row_state.specs.declared.step.Step.{Step}
-use Rattle.row_state.specs.Completion.{further_gaps}
-use Rattle.row_state.specs.Steps.{column_of}
-use Rattle.track_ways.specs.Paths.{Leads}
-use Rattle.piece_lines.specs.Paths.{PieceRuns}
+use Rattle.track_ways.specs.Fails.{FailsBy}
+use Rattle.piece_lines.specs.Lines.{PieceLineFits}
 
 -- no completion of the state with at most that many further gaps has tracks of pieces that go on from these
 abbrev pub PieceFails : Pins → ℕ → Kinds → State → (NetNo → ℕ) → ℕ → Type 0
-PieceFails pins limit k s track gaps =
-    (steps : List Step) → Leads k s steps → further_gaps s (map (column_of k) steps) ≤ gaps
-    → PieceRuns pins limit k s track steps → ⊥
+PieceFails = FailsBy PieceLineFits

@@ -3,12 +3,12 @@
 #![tactic(auto)]
 
 pub mod fail_laws;
-mod fit;
 pub mod laws;
 mod line_ways;
-mod passing;
+pub mod rule;
 pub mod stepping;
 
 pub use fail_laws::piece_failures;
 pub use laws::piece_tracks_listed;
+pub use rule::Turning;
 pub use stepping::{piece_last_ways, piece_step_ways};

@@ -3,15 +3,23 @@ ghost use Rattle.std.specs.Prelude.{◌≡◌, ◌++◌, ◌||◌, [], filter, t
 ghost use Rattle.std.specs.List.{flat_map};
 ghost use Rattle.track_ways.specs.Lines.{is_ahead};
 ghost use Rattle.track_ways.specs.Tables.{marked};
-ghost use Rattle.track_ways.specs.Ways.{missing, nets_below};
-ghost use Rattle.piece_ways.specs.PieceWays.{goes_on, into_ways, out_ways, piece_fills, piece_line_ways};
-ghost use Rattle.piece_ways.specs.PieceWays.{piece_test, straight_of};
+ghost use Rattle.track_ways.specs.Ways.{nets_below, test_beside};
+ghost use Rattle.piece_lines.specs.Lines.{may_turn};
+ghost use Rattle.piece_ways.specs.PieceWays.{goes_on, into_ways, out_ways, piece_line_ways, straight_of};
 
-use crate::fit::{do_fit, goes_with, may_turn};
-use cell_num::{List, NetNo, NoMemory, Pins};
+use cell_num::{NetNo, NoMemory, Pins};
 use row_trails::NETS;
 use std::alloc::{AllocError, Global};
-use track_ways::{Line, NetTrack, TrackWays, is_marked, is_open, missing_nets, with_track};
+use track_ways::{
+    Line, NetTrack, TrackWays, add_beside, do_fit, is_marked, is_net, is_open, missing_nets,
+};
+
+// Whether the net has a node place at the line.
+fn may_turn(line: &Line, net: NetNo) -> bool
+    ensures { result ≡ may_turn line.now net }
+{
+    is_net(&line.p, net) || is_net(&line.n, net)
+}
 
 // The nets that are in the table.
 fn marked_nets(
@@ -65,35 +73,6 @@ fn straight_tracks(
         .collect(alloc)
 }
 
-// Each way to give the nets tracks that fit the line beside the others. A track that doesn't go with those before it is
-// dropped at once.
-#[tactic(auto, using(crate::proofs::Listing::pieces_more, crate::proofs::Listing::pieces_whole))]
-fn add_pieces(
-    alloc: Global,
-    limit: u32,
-    line: &Line,
-    others: &[NetTrack],
-    nets: &[NetNo],
-    tracks: Vec<NetTrack>,
-    ways: &mut TrackWays,
-) -> Result<(), NoMemory>
-    requires fit { piece_test limit line.now others.now tracks.items ≡ true }
-    ensures { OnOk result (ways.new ≡ ways.old ++ piece_fills limit line.now others.now nets.now tracks.items) }
-{
-    let Some((net, rest)) = nets.split_first() else {
-        ways.push(List::from_vec(tracks))?;
-        return Ok(());
-    };
-    for track in 0..limit {
-        let here = NetTrack { net: *net, track };
-        if goes_with(line, &here, &tracks, others) {
-            let longer = with_track(alloc, here, &tracks)?;
-            add_pieces(alloc, limit, line, others, rest, longer, ways)?;
-        }
-    }
-    Ok(())
-}
-
 // The tracks into the line before the rest of the lines, where these are listed.
 fn tracks_into(
     alloc: Global,
@@ -115,7 +94,7 @@ fn tracks_into(
     }
     let missing = missing_nets(alloc, pins, nets, before, line, rest, after, &tracks)?;
     let earlier = marked_nets(alloc, before, &missing)?;
-    add_pieces(alloc, limit, line, &[], &earlier, tracks, &mut ways)?;
+    add_beside(alloc, limit, line, &[], &earlier, tracks, &mut ways)?;
     Ok(ways)
 }
 
@@ -132,7 +111,7 @@ fn add_out(
     into: &[NetTrack],
     ways: &mut TrackWays,
 ) -> Result<(), NoMemory>
-    requires fit { piece_test limit line.now [] into.now ≡ true }
+    requires fit { test_beside limit line.now [] into.now ≡ true }
     ensures { OnOk result (ways.new ≡ ways.old
         ++ out_ways pins.now limit (nets_below nets) (marked before.now) line.now
         (λ n. is_ahead rest.now n || marked after.now n) into.now) }
@@ -140,7 +119,7 @@ fn add_out(
     let kept = straight_tracks(alloc, pins, before, line, rest, after, into)?;
     let missing = missing_nets(alloc, pins, nets, before, line, rest, after, &kept)?;
     let further = further_nets(alloc, pins, before, rest, after, &missing)?;
-    add_pieces(alloc, limit, line, into, &further, kept, ways)?;
+    add_beside(alloc, limit, line, into, &further, kept, ways)?;
     Ok(())
 }
 

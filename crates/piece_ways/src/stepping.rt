@@ -9,17 +9,16 @@ ghost use Rattle.track_ways.specs.Tracks.{AreTracksOf, IsSingle};
 ghost use Rattle.piece_lines.specs.Paths.{PieceGoes};
 ghost use Rattle.piece_ways.specs.PieceWays.{piece_ends_ways, piece_goes_ways};
 
-use crate::passing::piece_ways_through;
+use crate::rule::Turning;
 use cell_num::{NoMemory, Pins};
-use row_state::{Kinds, State, Step, column};
+use row_state::{Kinds, State, Step};
 use row_trails::NETS;
 use std::alloc::Global;
-use track_ways::{NetTracks, TrackWays, last_line, lines_to, no_nets};
+use track_ways::{NetTracks, TrackWays, ways_after, ways_at_end};
 
 /// All tracks after a next column that go on from these where nets may turn, below the limit. `before` has the nets
 /// with a place before the state's last node line, `after` those with a place at the last node line after the column or
 /// later. Not called by the program.
-#[tactic(auto, using(crate::proofs::Through::goes_is))]
 pub fn piece_step_ways(
     alloc: Global,
     pins: &Pins,
@@ -43,19 +42,9 @@ pub fn piece_step_ways(
         × AreTracksOf tracks.now track × PieceGoes pins.now limit kinds.now state.now track step.now next
         × AreTracksOf way next) ways) }
 {
-    kinds.show_limits();
-    let lines = lines_to(alloc, state, &column(step, kinds))?;
-    let ways = piece_ways_through(
-        alloc,
-        pins,
-        limit,
-        kinds.nets,
-        before,
-        &lines,
-        after,
-        tracks.as_slice(),
-    )?;
-    Ok(ways)
+    ways_after::<Turning>(
+        alloc, pins, limit, kinds, state, before, step, after, tracks,
+    )
 }
 
 /// All tracks through the last line that go on from these where nets may turn, below the limit; each is empty. `before`
@@ -73,18 +62,5 @@ pub fn piece_last_ways(
     requires before { marked before.now ≡ is_behind kinds.now state.now }
     ensures { IfOk result (λ ways. ways ≡ piece_ends_ways pins.now limit kinds.now state.now tracks.now) }
 {
-    kinds.show_limits();
-    let lines = last_line(alloc, state)?;
-    let none = no_nets();
-    let ways = piece_ways_through(
-        alloc,
-        pins,
-        limit,
-        kinds.nets,
-        before,
-        &lines,
-        &none,
-        tracks.as_slice(),
-    )?;
-    Ok(ways)
+    ways_at_end::<Turning>(alloc, pins, limit, kinds, state, before, tracks)
 }

@@ -4,7 +4,6 @@ use Rattle.std.specs.List.{range_with_len}
 use Rattle.std.proofs.lemmas.Bool.{and_from, and_parts, both_ways, cases_eq, eq-eqb, eqb-true, le-ltb, lt-ltb, ne_eqb}
 use Rattle.cell_num.specs.declared.net.NetNo.{NetNo}
 use Rattle.cell_num.specs.declared.net.Pins.{Pins}
-use Rattle.cell_num.proofs.In.{in_flat, Piece}
 use Rattle.cell_num.proofs.Lists.{all_from_contains}
 use Rattle.cell_num.proofs.Pairs.{OneEach}
 use Rattle.cell_num.proofs.Permutations.{count_cons}
@@ -17,12 +16,14 @@ use Rattle.row_state.specs.Steps.{column_of, state_after}
 use Rattle.track_ways.specs.declared.line.Line.{Line}
 use Rattle.track_ways.specs.declared.track.NetTrack.{NetTrack}
 use Rattle.track_ways.specs.Crowds.{end_uncrowded, nets_at, none_crowded, step_uncrowded}
-use Rattle.track_ways.specs.Lines.{LineFits, Passes, is_ahead, is_held, with_line}
-use Rattle.track_ways.specs.Paths.{Ends, Goes, lines_to}
+use Rattle.track_ways.specs.Lines.{LineFits, LineRule, is_ahead, is_held, with_line}
+use Rattle.track_ways.specs.Paths.{lines_to}
 use Rattle.track_ways.specs.Rows.{node_line}
 use Rattle.track_ways.specs.States.{is_behind, is_still_ahead}
-use Rattle.track_ways.specs.Ways.{ends_ways, goes_ways, line_ways, net_of, nets_below, open_of, pass_ways}
-use Rattle.track_ways.proofs.Exact.{Among, AtLine, PlacesAmong, at_line, here_among, look, look_is, rest_among}
+use Rattle.track_ways.specs.Ways.{LineWays, ends_ways_by, goes_ways_by, net_of, nets_below, pass_ways_by}
+use Rattle.track_ways.specs.Rules.{Among, IsRule}
+use Rattle.track_ways.specs.Fillings.{look, look_is}
+use Rattle.track_ways.proofs.Exact.{PartedBy, PlacesAmong, here_among, parted_by, rest_among}
 use Rattle.track_ways.proofs.Nets.{behind_among, end_among, lines_among}
 use Rattle.track_ways.proofs.Steps.{empty}
 
@@ -69,62 +70,55 @@ few_at pins limit nets track before line after fits = omega (arith, few, all)
 not_false : (b : Bool) → b ≡ false → not b ≡ true
 not_false b e = ap not e
 
-pub line_uncrowded : (pins : Pins) (limit nets : ℕ) (before : NetNo → Bool) (track : NetNo → ℕ) (line : Line) (rest : List Line) (after : NetNo → Bool) → LineFits pins limit track before line (λ net. is_ahead rest net || after net) → none_crowded pins limit nets (with_line before line) rest after ≡ true → none_crowded pins limit nets before (line ∷ rest) after ≡ true
+pub line_uncrowded : (pins : Pins) (limit nets : ℕ) (before : NetNo → Bool) (track : NetNo → ℕ) (line : Line)
+    (rest : List Line) (after : NetNo → Bool) → LineFits pins limit track before line
+    (λ net. is_ahead rest net || after net) → none_crowded pins limit nets (with_line before line) rest after ≡ true →
+    none_crowded pins limit nets before (line ∷ rest) after ≡ true
 line_uncrowded pins limit nets before track line rest after fits more =
     and_from (not (ltb limit (nets_at pins nets before line (λ net. is_ahead rest net || after net)))) (none_crowded pins limit nets (with_line before line) rest after)
     (not_false (ltb limit (nets_at pins nets before line (λ net. is_ahead rest net || after net))) (le-ltb limit (nets_at pins nets before line (λ net. is_ahead rest net || after net)) (few_at pins limit nets track before line (λ net. is_ahead rest net || after net) fits)))
     more
 
--- where tracks go through some lines, none of these is crowded
-pub passes_uncrowded : (pins : Pins) (limit nets : ℕ) (before : NetNo → Bool) (track : NetNo → ℕ) (lines : List Line) (after : NetNo → Bool) (last : NetNo → ℕ) → Passes pins limit before track lines after last → none_crowded pins limit nets before lines after ≡ true
-passes_uncrowded pins limit nets before track [] after last p = refl
-passes_uncrowded pins limit nets before track (line ∷ rest) after last (next, agrees, fits, more) =
-    line_uncrowded pins limit nets before next line rest after fits (passes_uncrowded pins limit nets (with_line before line) next rest after last more)
-
--- no tracks go through a crowded line to a next column
-pub crowded_step : (pins : Pins) (limit : ℕ) (k : Kinds) (s : State) (step : Step) (track next : NetNo → ℕ) → step_uncrowded pins limit k s step ≡ false → Goes pins limit k s track step next → ⊥
-crowded_step pins limit k s step track next crowded goes =
-    both_ways (step_uncrowded pins limit k s step) crowded (passes_uncrowded pins limit k.nets (is_behind k s) track (lines_to s (column_of k step)) (is_still_ahead k (state_after k s step)) next goes)
-
--- nor through a crowded last line
-pub crowded_end : (pins : Pins) (limit : ℕ) (k : Kinds) (s : State) (track : NetNo → ℕ) → end_uncrowded pins limit k s ≡ false → Ends pins limit k s track → ⊥
-crowded_end pins limit k s track crowded (last, passes) =
-    both_ways (end_uncrowded pins limit k s) crowded (passes_uncrowded pins limit k.nets (is_behind k s) track (node_line s.p_end s.n_end ∷ []) (λ net. false) last passes)
-
--- ---- the lists of tracks
-
 -- where a list of tracks goes on through some lines, none of these is crowded
-listed_uncrowded : (pins : Pins) (limit nets : ℕ) (before : NetNo → Bool) (lines : List Line) (after : NetNo → Bool) (tracks way : List NetTrack) → Among (nets_below nets) before → PlacesAmong (nets_below nets) lines → Contains (pass_ways pins limit (nets_below nets) before lines after tracks) way → none_crowded pins limit nets before lines after ≡ true
-listed_uncrowded pins limit nets before [] after tracks way among places there = refl
-listed_uncrowded pins limit nets before (line ∷ rest) after tracks way among places there =
-    let open' : List NetTrack = open_of pins before (λ net. is_ahead (line ∷ rest) net || after net) tracks in
-    let p : Piece (pass_ways pins limit (nets_below nets) (with_line before line) rest after) (line_ways pins limit (nets_below nets) before line (λ net. is_ahead rest net || after net) open') way = in_flat (pass_ways pins limit (nets_below nets) (with_line before line) rest after) (line_ways pins limit (nets_below nets) before line (λ net. is_ahead rest net || after net) open') way there in
-    let here : Among (nets_below nets) (with_line before line) = here_among (nets_below nets) before line rest among places in
-    let a : AtLine pins limit before line (λ net. is_ahead rest net || after net) open' p.of = at_line pins limit (nets_below nets) before line (λ net. is_ahead rest net || after net) open' p.of here p.listed in
-    line_uncrowded pins limit nets before (look p.of) line rest after
-    (a.fits (look p.of) (all_from_contains (λ (t : NetTrack). look p.of t.net ≡ t.track) p.of (λ t at. look_is p.of t a.one at)))
-    (listed_uncrowded pins limit nets (with_line before line) rest after p.of way here (rest_among (nets_below nets) line rest places) p.inside)
+listed_uncrowded : {rule : LineRule} {ways : LineWays} → IsRule rule ways →
+    (pins : Pins) (limit nets : ℕ) (before : NetNo → Bool) (lines : List Line) (after : NetNo → Bool)
+    (tracks way : List NetTrack) → Among (nets_below nets) before → PlacesAmong (nets_below nets) lines →
+    Contains (pass_ways_by ways pins limit (nets_below nets) before lines after tracks) way →
+    none_crowded pins limit nets before lines after ≡ true
+listed_uncrowded r pins limit nets before [] after tracks way among places there = refl
+listed_uncrowded {rule} {ways} r pins limit nets before (line ∷ rest) after tracks way among places there =
+    let later : NetNo → Bool = λ net. is_ahead rest net || after net in
+    let p : PartedBy rule ways pins limit (nets_below nets) before line rest after tracks way = parted_by r pins limit (nets_below nets) before line rest after tracks way among places there in
+    let from = p.here.from (look p.out) (all_from_contains (λ (t : NetTrack). look p.out t.net ≡ t.track) p.out (λ t at. look_is p.out t p.here.one at)) in
+    let own = r.own pins limit before line later from.0 (look p.out) from.2 in
+    line_uncrowded pins limit nets before own.0 line rest after own.1.fits
+    (listed_uncrowded r pins limit nets (with_line before line) rest after p.out way (here_among (nets_below nets) before line rest among places) (rest_among (nets_below nets) line rest places) p.further)
 
 -- so none are listed through a crowded line to a next column
-pub none_through : (pins : Pins) (limit : ℕ) (k : Kinds) (s : State) (step : Step) (free : Bool) → AreSomeKinds k → IsState k s → free ≡ step_uncrowded pins limit k s step → free ≡ false → (tracks : List NetTrack) → goes_ways pins limit k s tracks step ≡ []
-none_through pins limit k s step free some state is crowded tracks = empty (goes_ways pins limit k s tracks step) (λ way there.
-    both_ways (step_uncrowded pins limit k s step) (sym is ∙ crowded) (listed_uncrowded pins limit k.nets (is_behind k s) (lines_to s (column_of k step)) (is_still_ahead k (state_after k s step)) tracks way (behind_among k s some) (lines_among k s step some state) there))
+pub none_through : {rule : LineRule} {ways : LineWays} → IsRule rule ways → (pins : Pins) (limit : ℕ) (k : Kinds) (s : State) (step : Step) (tracks : List NetTrack) → AreSomeKinds k → IsState k s → step_uncrowded pins limit k s step ≡ false → goes_ways_by ways pins limit k s tracks step ≡ []
+none_through {rule} {ways} r pins limit k s step tracks some state crowded = empty (goes_ways_by ways pins limit k s tracks step) (λ way there.
+    both_ways (step_uncrowded pins limit k s step) crowded (listed_uncrowded r pins limit k.nets (is_behind k s) (lines_to s (column_of k step)) (is_still_ahead k (state_after k s step)) tracks way (behind_among k s some) (lines_among k s step some state) there))
 
 -- nor through a crowded last line
-pub none_at_end : (pins : Pins) (limit : ℕ) (k : Kinds) (s : State) (free : Bool) → AreSomeKinds k → IsState k s → free ≡ end_uncrowded pins limit k s → free ≡ false → (tracks : List NetTrack) → ends_ways pins limit k s tracks ≡ []
-none_at_end pins limit k s free some state is crowded tracks = empty (ends_ways pins limit k s tracks) (λ way there.
-    both_ways (end_uncrowded pins limit k s) (sym is ∙ crowded) (listed_uncrowded pins limit k.nets (is_behind k s) (node_line s.p_end s.n_end ∷ []) (λ net. false) tracks way (behind_among k s some) (end_among k s state) there))
+pub none_at_end : {rule : LineRule} {ways : LineWays} → IsRule rule ways → (pins : Pins) (limit : ℕ) (k : Kinds) (s : State) (tracks : List NetTrack) → AreSomeKinds k → IsState k s → end_uncrowded pins limit k s ≡ false → ends_ways_by ways pins limit k s tracks ≡ []
+none_at_end {rule} {ways} r pins limit k s tracks some state crowded = empty (ends_ways_by ways pins limit k s tracks) (λ way there.
+    both_ways (end_uncrowded pins limit k s) crowded (listed_uncrowded r pins limit k.nets (is_behind k s) (node_line s.p_end s.n_end ∷ []) (λ net. false) tracks way (behind_among k s some) (end_among k s state) there))
 
--- ---- what the code reads from tables
+-- what the code reads from tables
 
-pub step_is : (pins : Pins) (limit : ℕ) (k : Kinds) (s : State) (step : Step) (before after : NetNo → Bool) (lines : List Line) (free : Bool) → lines ≡ lines_to s (column_of k step) → before ≡ is_behind k s → after ≡ is_still_ahead k (state_after k s step) → free ≡ none_crowded pins limit k.nets before lines after → free ≡ step_uncrowded pins limit k s step
+pub step_is : (pins : Pins) (limit : ℕ) (k : Kinds) (s : State) (step : Step) (before after : NetNo → Bool)
+    (lines : List Line) (free : Bool) → lines ≡ lines_to s (column_of k step) → before ≡ is_behind k s →
+    after ≡ is_still_ahead k (state_after k s step) → free ≡ none_crowded pins limit k.nets before lines after →
+    free ≡ step_uncrowded pins limit k s step
 step_is pins limit k s step before after lines free is_lines is_before is_after is =
     is
     ∙ ap (λ (b : NetNo → Bool). none_crowded pins limit k.nets b lines after) is_before
     ∙ ap (λ (ls : List Line). none_crowded pins limit k.nets (is_behind k s) ls after) is_lines
     ∙ ap (λ (b : NetNo → Bool). none_crowded pins limit k.nets (is_behind k s) (lines_to s (column_of k step)) b) is_after
 
-pub end_is : (pins : Pins) (limit : ℕ) (k : Kinds) (s : State) (before after : NetNo → Bool) (lines : List Line) (free : Bool) → lines ≡ node_line s.p_end s.n_end ∷ [] → before ≡ is_behind k s → after ≡ (λ net. false) → free ≡ none_crowded pins limit k.nets before lines after → free ≡ end_uncrowded pins limit k s
+pub end_is : (pins : Pins) (limit : ℕ) (k : Kinds) (s : State) (before after : NetNo → Bool) (lines : List Line)
+    (free : Bool) → lines ≡ node_line s.p_end s.n_end ∷ [] → before ≡ is_behind k s → after ≡ (λ net. false) →
+    free ≡ none_crowded pins limit k.nets before lines after → free ≡ end_uncrowded pins limit k s
 end_is pins limit k s before after lines free is_lines is_before is_after is =
     is
     ∙ ap (λ (b : NetNo → Bool). none_crowded pins limit k.nets b lines after) is_before

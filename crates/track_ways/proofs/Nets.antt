@@ -33,8 +33,8 @@ use Rattle.track_ways.specs.Paths.{lines_to}
 use Rattle.cell_num.proofs.Lists.{all_imply}
 use Rattle.track_ways.specs.Tables.{HasEntries, HasEntry}
 use Rattle.track_ways.specs.Ways.{net_of, nets_below}
-use Rattle.track_ways.proofs.Complete.{eqb_false, in_range, net_same}
-use Rattle.track_ways.proofs.Exact.{Among}
+use Rattle.track_ways.specs.Rules.{Among}
+use Rattle.track_ways.specs.Fillings.{eqb_false, in_range, net_same}
 
 below_there : (n : ℕ) (net : NetNo) → net.0 < n → Contains (nets_below n) net
 below_there n net low = subst (λ z. Contains (nets_below n) z) (net_same (net_of net.0) net refl) (contains_map net_of (range_with_len 0 n) net.0 (in_range n net.0 low))

@@ -14,10 +14,11 @@ use Rattle.row_state.specs.Start.{start_of, GatesAreNets}
 use Rattle.row_state.specs.Steps.{column_of, state_after}
 use Rattle.row_state.proofs.Unfold.{Next, unfold_to, unfold_from}
 use Rattle.track_ways.specs.declared.line.Line.{Line}
-use Rattle.track_ways.specs.Lines.{is_ahead, Sweeps, Passes}
+use Rattle.track_ways.specs.Lines.{LineRule, PassesBy, SweepsBy, is_ahead}
+use Rattle.track_ways.specs.Rules.{IsAgain}
 use Rattle.track_ways.specs.Rows.{node_line, gate_line, lines_between, lines_behind}
 use Rattle.track_ways.specs.States.{touched_left, touched_here, is_behind, is_still_ahead}
-use Rattle.track_ways.specs.Paths.{lines_to, Runs, Leads, EndsFit}
+use Rattle.track_ways.specs.Paths.{EndsFit, Leads, RunsBy, lines_to}
 use Rattle.track_ways.proofs.Counts.{all_places}
 use Rattle.track_ways.proofs.Holding.{ahead_counts, none_ahead, places_append}
 use Rattle.track_ways.proofs.Behind.{of_row, placed_is, GateCounts, gate_counts, BetweenCounts, between_counts, rest_touched, ahead_of_state}
@@ -73,7 +74,10 @@ pub behind_after : (k : Kinds) (s : State) (step : Step) (rest : List Column) (n
 behind_after k s step rest net whole after fit =
     elim (cases_Bool (is_ahead (lines_to s (column_of k step)) net)) [
       | inl yes' ↦ or_right (is_behind k s net) _ yes' ∙ sym (lt-ltb _ _ (omega (arith, fit net, counts.least, ahead_counts (lines_to s (column_of k step)) net yes')))
-      | inr no' ↦ ap (λ (b : Bool). is_behind k s net || b) no' ∙ or_none (is_behind k s net) ∙ ap (λ n. ltb n (touched_left k (start_of k) net)) (let same : touched_left k s net + touched_here s net ≡ touched_left k (state_after k s step) net + touched_here (state_after k s step) net = omega (arith, counts.least, counts.most, none_ahead (lines_to s (column_of k step)) net no') in same)
+      | inr no' ↦ ap (λ (b : Bool). is_behind k s net || b) no' ∙ or_none (is_behind k s net) ∙ ap
+          (λ n. ltb n (touched_left k (start_of k) net)) (let same : touched_left k s net + touched_here s net ≡
+          touched_left k (state_after k s step) net + touched_here (state_after k s step) net = omega
+          (arith, counts.least, counts.most, none_ahead (lines_to s (column_of k step)) net no') in same)
     ]
   where
     counts : StepCounts k s step net
@@ -88,29 +92,39 @@ pub parted : (k : Kinds) (s : State) (step : Step) (cs : List Column) → lines_
 parted k s step cs = assoc (lines_between s.p_end s.n_end (column_of k step)) (gate_line (column_of k step)) (lines_behind (state_after k s step).p_end (state_after k s step).n_end cs)
 
 -- along the path
-pub runs : (pins : Pins) (limit : ℕ) (k : Kinds) (s : State) (track : NetNo → ℕ) (steps : List Step) → GatesAreNets k → Leads k s steps → EndsFit k s → Sweeps pins limit (is_behind k s) track (lines_behind s.p_end s.n_end (map (column_of k) steps)) → Runs pins limit k s track steps
-runs pins limit k s track [] nets leads fit sweeps = let p : Parted pins limit (is_behind k s) track (node_line s.p_end s.n_end ∷ []) [] = part pins limit (is_behind k s) track (node_line s.p_end s.n_end ∷ []) [] sweeps in (p.last, p.passes)
-runs pins limit k s track (step ∷ steps) nets leads fit sweeps =
+pub runs : (rule : LineRule) (pins : Pins) (limit : ℕ) (k : Kinds) (s : State) (track : NetNo → ℕ) (steps : List Step) →
+    GatesAreNets k → Leads k s steps → EndsFit k s → SweepsBy rule pins limit (is_behind k s) track
+    (lines_behind s.p_end s.n_end (map (column_of k) steps)) → RunsBy rule pins limit k s track steps
+runs rule pins limit k s track [] nets leads fit sweeps = let p : Parted rule pins limit (is_behind k s) track (node_line s.p_end s.n_end ∷ []) [] = part rule pins limit (is_behind k s) track (node_line s.p_end s.n_end ∷ []) [] sweeps in (p.last, p.passes)
+runs rule pins limit k s track (step ∷ steps) nets leads fit sweeps =
     let cs : List Column = map (column_of k) steps in
     let s' : State = state_after k s step in
     let after : Completes k s' cs = completes k s' steps nets leads.1 in
     let whole : Completes k s (column_of k step ∷ cs) = unfold_from k s step cs nets leads.0 after in
-    let p : Parted pins limit (is_behind k s) track (lines_to s (column_of k step)) (lines_behind s'.p_end s'.n_end cs) = part pins limit (is_behind k s) track (lines_to s (column_of k step)) (lines_behind s'.p_end s'.n_end cs) (subst (λ ls. Sweeps pins limit (is_behind k s) track ls) (parted k s step cs) sweeps) in (
+    let p : Parted rule pins limit (is_behind k s) track (lines_to s (column_of k step))
+    (lines_behind s'.p_end s'.n_end cs) = part rule pins limit (is_behind k s) track (lines_to s (column_of k step))
+    (lines_behind s'.p_end s'.n_end cs) (subst (λ ls. SweepsBy rule pins limit (is_behind k s) track ls)
+    (parted k s step cs) sweeps) in (
       p.last,
-      subst (λ (b : NetNo → Bool). Passes pins limit (is_behind k s) track (lines_to s (column_of k step)) b p.last) (same_tests (is_ahead (lines_behind s'.p_end s'.n_end cs)) (is_still_ahead k s') (λ net. ahead_of_state k cs s' net after)) p.passes,
-      runs pins limit k s' p.last steps nets leads.1 (ends_after k s step cs whole after fit) (subst (λ (b : NetNo → Bool). Sweeps pins limit b p.last (lines_behind s'.p_end s'.n_end cs)) (same_tests (with_lines (is_behind k s) (lines_to s (column_of k step))) (is_behind k s') (λ net. behind_after k s step cs net whole after fit)) p.sweeps),
+      subst (λ (b : NetNo → Bool). PassesBy rule pins limit (is_behind k s) track (lines_to s (column_of k step)) b p.last) (same_tests (is_ahead (lines_behind s'.p_end s'.n_end cs)) (is_still_ahead k s') (λ net. ahead_of_state k cs s' net after)) p.passes,
+      runs rule pins limit k s' p.last steps nets leads.1 (ends_after k s step cs whole after fit)
+          (subst (λ (b : NetNo → Bool). SweepsBy rule pins limit b p.last (lines_behind s'.p_end s'.n_end cs))
+          (same_tests (with_lines (is_behind k s) (lines_to s (column_of k step))) (is_behind k s')
+          (λ net. behind_after k s step cs net whole after fit)) p.sweeps),
     )
 
 -- and back
-pub sweeps_of : (pins : Pins) (limit : ℕ) (k : Kinds) (s : State) (track : NetNo → ℕ) (steps : List Step) → GatesAreNets k → Leads k s steps → EndsFit k s → Runs pins limit k s track steps → Sweeps pins limit (is_behind k s) track (lines_behind s.p_end s.n_end (map (column_of k) steps))
-sweeps_of pins limit k s track [] nets leads fit (last, passes) = join pins limit (is_behind k s) track last (node_line s.p_end s.n_end ∷ []) [] passes tt
-sweeps_of pins limit k s track (step ∷ steps) nets leads fit (next, goes, more) =
+pub sweeps_of : (rule : LineRule) → IsAgain rule → (pins : Pins) (limit : ℕ) (k : Kinds) (s : State) (track : NetNo → ℕ)
+    (steps : List Step) → GatesAreNets k → Leads k s steps → EndsFit k s → RunsBy rule pins limit k s track steps →
+    SweepsBy rule pins limit (is_behind k s) track (lines_behind s.p_end s.n_end (map (column_of k) steps))
+sweeps_of rule again' pins limit k s track [] nets leads fit (last, passes) = join rule again' pins limit (is_behind k s) track last (node_line s.p_end s.n_end ∷ []) [] passes tt
+sweeps_of rule again' pins limit k s track (step ∷ steps) nets leads fit (next, goes, more) =
     let cs : List Column = map (column_of k) steps in
     let s' : State = state_after k s step in
     let after : Completes k s' cs = completes k s' steps nets leads.1 in
     let whole : Completes k s (column_of k step ∷ cs) = unfold_from k s step cs nets leads.0 after in
-    let rest : Sweeps pins limit (is_behind k s') next (lines_behind s'.p_end s'.n_end cs) = sweeps_of pins limit k s' next steps nets leads.1 (ends_after k s step cs whole after fit) more in
-    subst (λ ls. Sweeps pins limit (is_behind k s) track ls) (sym (parted k s step cs))
-    (join pins limit (is_behind k s) track next (lines_to s (column_of k step)) (lines_behind s'.p_end s'.n_end cs)
-    (subst (λ (b : NetNo → Bool). Passes pins limit (is_behind k s) track (lines_to s (column_of k step)) b next) (sym (same_tests (is_ahead (lines_behind s'.p_end s'.n_end cs)) (is_still_ahead k s') (λ net. ahead_of_state k cs s' net after))) goes)
-    (subst (λ (b : NetNo → Bool). Sweeps pins limit b next (lines_behind s'.p_end s'.n_end cs)) (sym (same_tests (with_lines (is_behind k s) (lines_to s (column_of k step))) (is_behind k s') (λ net. behind_after k s step cs net whole after fit))) rest))
+    let rest : SweepsBy rule pins limit (is_behind k s') next (lines_behind s'.p_end s'.n_end cs) = sweeps_of rule again' pins limit k s' next steps nets leads.1 (ends_after k s step cs whole after fit) more in
+    subst (λ ls. SweepsBy rule pins limit (is_behind k s) track ls) (sym (parted k s step cs))
+    (join rule again' pins limit (is_behind k s) track next (lines_to s (column_of k step)) (lines_behind s'.p_end s'.n_end cs)
+    (subst (λ (b : NetNo → Bool). PassesBy rule pins limit (is_behind k s) track (lines_to s (column_of k step)) b next) (sym (same_tests (is_ahead (lines_behind s'.p_end s'.n_end cs)) (is_still_ahead k s') (λ net. ahead_of_state k cs s' net after))) goes)
+    (subst (λ (b : NetNo → Bool). SweepsBy rule pins limit b next (lines_behind s'.p_end s'.n_end cs)) (sym (same_tests (with_lines (is_behind k s) (lines_to s (column_of k step))) (is_behind k s') (λ net. behind_after k s step cs net whole after fit))) rest))

@@ -15,6 +15,7 @@ use Rattle.row_place.specs.Trunks.{lines_of}
 use Rattle.channel_route.proofs.NetWires.{line_kept}
 use Rattle.track_ways.specs.declared.line.Line.{Line}
 use Rattle.track_ways.specs.Lines.{is_net, has_place}
+pub use Rattle.track_ways.specs.Fillings.{is_net_some, kept, some_is_net}
 use Rattle.track_ways.specs.Channel.{side, node_of, nodes_from, gate_of, gates_from, AreLinesOf}
 
 abbrev pub the_node : Row → ℕ → NetNo → NodePlace
@@ -39,13 +40,6 @@ pub record NodeAt (k : ℕ) (lines : List Line) (node : NodePlace) : Type 0 wher
   pub at : ℕ
   pub line : node.line ≡ k + at
   pub there : at_line lines at (λ l. is_net (side node.row l) node.net) ≡ true
-
-pub is_net_some : (o : Option NetNo) (net : NetNo) → o ≡ Some net → is_net o net ≡ true
-is_net_some o net e = subst (λ q. is_net q net ≡ true) (sym e) ((net_decides net net).1 refl)
-
-pub some_is_net : (o : Option NetNo) (net : NetNo) → is_net o net ≡ true → o ≡ Some net
-some_is_net None net e = absurd cc
-some_is_net (Some x) net e = ap (λ n. Some n) ((net_decides x net).0 e)
 
 pub one_node : (row : Row) (k : ℕ) (o : Option NetNo) (node : NodePlace) → Contains (node_of row k o) node → (node.row ≡ row) × (node.line ≡ k) × (o ≡ Some node.net)
 one_node row k o node there = at o (contains_option _ node there)
@@ -113,18 +107,6 @@ pub gate_there : (k : ℕ) (lines : List Line) (i : ℕ) (net : NetNo) → at_li
 gate_there k [] i net e = absurd cc
 gate_there k (line ∷ lines) zero net e = subst (λ m. Contains (gates_from k (line ∷ lines)) (the_gate m net)) (let z : k ≡ k + 0 = omega arith in z) (Contains-append_left _ _ _ (gate_one k line.gate net e))
 gate_there k (line ∷ lines) (suc i) net e = subst (λ m. Contains (gates_from k (line ∷ lines)) (the_gate m net)) (let z : suc k + i ≡ k + suc i = omega arith in z) (Contains-append_right (gate_of k line.gate) _ _ (gate_there (suc k) lines i net e))
-
--- what a filter keeps
-pub kept : {X : Type 0} (p : X → Bool) (xs : List X) (x : X) → Contains (filter p xs) x → Contains xs x × (p x ≡ true)
-kept p [] x h = absurd (contains_none x h)
-kept {X} p (y ∷ ys) x h = step (p y) refl h (kept p ys x)
-  where
-    step : (b : Bool) → p y ≡ b → Contains (cond b (y ∷ filter p ys) (filter p ys)) x → (Contains (filter p ys) x → Contains ys x × (p x ≡ true)) → Contains (y ∷ ys) x × (p x ≡ true)
-    step true e c more = elim (contains_cons y (filter p ys) x c) [
-      | inl same ↦ (subst (λ z. Contains (y ∷ ys) z) same (contains_here y ys), subst (λ z. p z ≡ true) same e)
-      | inr rest ↦ let m = more rest in (contains_there y ys x m.0, m.1)
-    ]
-    step false e c more = let m = more c in (contains_there y ys x m.0, m.1)
 
 -- the lines of the places of a net are those at which it stands
 pub line_at : (p : Placement) (lines : List Line) → AreLinesOf p lines → (net : NetNo) (l : ℕ) → Contains (lines_of p net) l → at_line lines l (λ line. has_place line net) ≡ true

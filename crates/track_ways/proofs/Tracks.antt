@@ -56,13 +56,13 @@ pub record OneTrack (pins : Pins) (limit : ℕ) (before : NetNo → Bool) (track
 
 pub one_track : (pins : Pins) (limit : ℕ) (before : NetNo → Bool) (track : NetNo → ℕ) (lines : List Line) → Sweeps pins limit before track lines → OneTrack pins limit before track lines
 one_track pins limit before track [] s = record { of = track; agrees = λ net h. refl; fits = s }
-one_track pins limit before track (line ∷ rest) (next, agrees, fits, more) = joined (one_track pins limit (with_line before line) next rest more)
+one_track pins limit before track (line ∷ rest) (next, f, more) = joined (one_track pins limit (with_line before line) next rest more)
   where
     joined : OneTrack pins limit (with_line before line) next rest → OneTrack pins limit before track (line ∷ rest)
     joined r = record {
       of = of;
-      agrees = λ net h. here net h ∙ agrees net h;
-      fits = (line_same pins limit next of before line rest held fits, fits_same pins limit r.of of (with_line before line) rest behind r.fits);
+      agrees = λ net h. here net h ∙ f.same net h;
+      fits = (line_same pins limit next of before line rest held f.fits, fits_same pins limit r.of of (with_line before line) rest behind r.fits);
     }
       where
         of : NetNo → ℕ
@@ -86,7 +86,7 @@ one_track pins limit before track (line ∷ rest) (next, agrees, fits, more) = j
 -- tracks line by line, from one track for each net
 pub sweep : (pins : Pins) (limit : ℕ) (before : NetNo → Bool) (track of : NetNo → ℕ) (lines : List Line) → Agrees pins before (is_ahead lines) track of → Fits pins limit of before lines → Sweeps pins limit before track lines
 sweep pins limit before track of [] agrees f = f
-sweep pins limit before track of (line ∷ rest) agrees f = (of, agrees, f.0, sweep pins limit (with_line before line) of of rest (λ net h. refl) f.1)
+sweep pins limit before track of (line ∷ rest) agrees f = (of, record { same = agrees; fits = f.0 }, sweep pins limit (with_line before line) of of rest (λ net h. refl) f.1)
 
 -- the nets with a place so far, by a test that is the same
 pub line_before : (pins : Pins) (limit : ℕ) (track : NetNo → ℕ) (a b : NetNo → Bool) (line : Line) (rest : List Line) → ((net : NetNo) → b net ≡ a net) → LineFits pins limit track a line (is_ahead rest) → LineFits pins limit track b line (is_ahead rest)

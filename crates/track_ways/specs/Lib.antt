@@ -11,3 +11,7 @@ pub mod Paths
 pub mod Fails
 pub mod Certificate
 pub mod Checked
+pub mod Rules
+pub mod Fillings
+pub mod Beside
+pub mod StraightLaw

@@ -62,21 +62,39 @@ Fits pins limit track before (line ∷ rest) =
 abbrev pub Agrees : Pins → (NetNo → Bool) → (NetNo → Bool) → (NetNo → ℕ) → (NetNo → ℕ) → Type 0
 Agrees pins before behind a b = (net : NetNo) → is_open pins before behind net ≡ true → b net ≡ a net
 
--- tracks line by line, each as those of the line before for the nets that are open between the two
-abbrev pub Sweeps : Pins → ℕ → (NetNo → Bool) → (NetNo → ℕ) → List Line → Type 0
-Sweeps pins limit before track [] = Unit {0}
-Sweeps pins limit before track (line ∷ rest) =
-    (next : NetNo → ℕ) × Agrees pins before (is_ahead (line ∷ rest)) track next
-    × LineFits pins limit next before line (is_ahead rest) × Sweeps pins limit (with_line before line) next rest
+-- what a rule asks at a line, of the tracks before it and of those at it or after it
+abbrev pub LineRule : Type 1
+LineRule = Pins → ℕ → (NetNo → ℕ) → (NetNo → Bool) → Line → (NetNo → Bool) → (NetNo → ℕ) → Type 0
 
--- The same through some lines, from tracks before them to tracks after them; `behind` has the nets with a place after
+-- Nets go straight through the line: those that are open before it keep their tracks, and the tracks at it fit.
+pub record StraightFits
+    (pins : Pins) (limit : ℕ) (track : NetNo → ℕ) (before : NetNo → Bool) (line : Line) (after : NetNo → Bool)
+    (next : NetNo → ℕ) : Type 0 where
+  pub same : Agrees pins before (λ net. has_place line net || after net) track next
+  pub fits : LineFits pins limit next before line after
+
+-- tracks line by line, by a rule
+abbrev pub SweepsBy : LineRule → Pins → ℕ → (NetNo → Bool) → (NetNo → ℕ) → List Line → Type 0
+SweepsBy rule pins limit before track [] = Unit {0}
+SweepsBy rule pins limit before track (line ∷ rest) =
+    (next : NetNo → ℕ) × rule pins limit track before line (is_ahead rest) next
+    × SweepsBy rule pins limit (with_line before line) next rest
+
+-- The same through some lines, from tracks before them to tracks after them; `after` has the nets with a place after
 -- them.
+abbrev pub PassesBy :
+    LineRule → Pins → ℕ → (NetNo → Bool) → (NetNo → ℕ) → List Line → (NetNo → Bool) → (NetNo → ℕ) → Type 0
+PassesBy rule pins limit before track [] after last = Agrees pins before after track last
+PassesBy rule pins limit before track (line ∷ rest) after last =
+    (next : NetNo → ℕ) × rule pins limit track before line (λ net. is_ahead rest net || after net) next
+    × PassesBy rule pins limit (with_line before line) next rest after last
+
+-- tracks line by line where nets go straight
+abbrev pub Sweeps : Pins → ℕ → (NetNo → Bool) → (NetNo → ℕ) → List Line → Type 0
+Sweeps = SweepsBy StraightFits
+
 abbrev pub Passes : Pins → ℕ → (NetNo → Bool) → (NetNo → ℕ) → List Line → (NetNo → Bool) → (NetNo → ℕ) → Type 0
-Passes pins limit before track [] behind last = Agrees pins before behind track last
-Passes pins limit before track (line ∷ rest) behind last =
-    (next : NetNo → ℕ) × Agrees pins before (λ net. is_ahead (line ∷ rest) net || behind net) track next
-    × LineFits pins limit next before line (λ net. is_ahead rest net || behind net)
-    × Passes pins limit (with_line before line) next rest behind last
+Passes = PassesBy StraightFits
 
 -- the tracks before a line, with those that `next` gives the nets with a place at it
 abbrev pub chosen : Line → (NetNo → ℕ) → (NetNo → ℕ) → NetNo → ℕ

@@ -52,31 +52,60 @@ abbrev pub line_test : ℕ → Line → List NetTrack → Bool
 line_test limit line tracks =
     list_all (λ (t : NetTrack). ltb t.track limit && list_all (are_apart line t) tracks) tracks
 
--- the tracks at a line, from those of the nets that are open before it
-abbrev pub line_ways :
-    Pins → ℕ → List NetNo → (NetNo → Bool) → Line → (NetNo → Bool) → List NetTrack → List (List NetTrack)
-line_ways pins limit nets before line behind tracks =
-    filter (line_test limit line) (fills limit (missing pins before line behind nets tracks) tracks)
+-- tracks of two nets on the two sides of the line are apart
+abbrev pub go_together : Line → NetTrack → NetTrack → Bool
+go_together line t u = t.net.0 == u.net.0 || (are_apart line t u && are_apart line u t)
 
--- the tracks after some lines, of nets in this list
-abbrev pub pass_ways :
-    Pins → ℕ → List NetNo → (NetNo → Bool) → List Line → (NetNo → Bool) → List NetTrack → List (List NetTrack)
-pass_ways pins limit nets before [] behind tracks = open_of pins before behind tracks ∷ []
-pass_ways pins limit nets before (line ∷ rest) behind tracks =
-    flat_map (pass_ways pins limit nets (with_line before line) rest behind)
-    (line_ways pins limit nets before line (λ net. is_ahead rest net || behind net)
-    (open_of pins before (λ net. is_ahead (line ∷ rest) net || behind net) tracks))
+-- tracks on one side of the line fit it beside those on the other side
+abbrev pub test_beside : ℕ → Line → List NetTrack → List NetTrack → Bool
+test_beside limit line others tracks =
+    line_test limit line tracks && list_all (λ (t : NetTrack). list_all (go_together line t) others) tracks
+
+-- each way to give these nets, besides those with tracks, tracks that fit
+abbrev pub ways_beside : ℕ → Line → List NetTrack → List NetNo → List NetTrack → List (List NetTrack)
+ways_beside limit line others nets tracks = filter (test_beside limit line others) (fills limit nets tracks)
+
+-- the tracks at or after a line, of nets in this list, from those of the nets that are open before it
+abbrev pub LineWays : Type 0
+LineWays = Pins → ℕ → List NetNo → (NetNo → Bool) → Line → (NetNo → Bool) → List NetTrack → List (List NetTrack)
+
+-- those where nets go straight
+abbrev pub line_ways : LineWays
+line_ways pins limit nets before line after tracks =
+    filter (line_test limit line) (fills limit (missing pins before line after nets tracks) tracks)
+
+-- the tracks after some lines
+abbrev pub pass_ways_by :
+    LineWays → Pins → ℕ → List NetNo → (NetNo → Bool) → List Line → (NetNo → Bool) → List NetTrack
+    → List (List NetTrack)
+pass_ways_by ways pins limit nets before [] after tracks = open_of pins before after tracks ∷ []
+pass_ways_by ways pins limit nets before (line ∷ rest) after tracks =
+    flat_map (pass_ways_by ways pins limit nets (with_line before line) rest after)
+    (ways pins limit nets before line (λ net. is_ahead rest net || after net)
+    (open_of pins before (λ net. is_ahead (line ∷ rest) net || after net) tracks))
 
 -- those after a next column
-abbrev pub goes_ways : Pins → ℕ → Kinds → State → List NetTrack → Step → List (List NetTrack)
-goes_ways pins limit k s tracks step =
-    pass_ways pins limit (nets_below k.nets) (is_behind k s) (lines_to s (column_of k step))
+abbrev pub goes_ways_by : LineWays → Pins → ℕ → Kinds → State → List NetTrack → Step → List (List NetTrack)
+goes_ways_by ways pins limit k s tracks step =
+    pass_ways_by ways pins limit (nets_below k.nets) (is_behind k s) (lines_to s (column_of k step))
     (is_still_ahead k (state_after k s step)) tracks
 
 -- and those after the last line
+abbrev pub ends_ways_by : LineWays → Pins → ℕ → Kinds → State → List NetTrack → List (List NetTrack)
+ends_ways_by ways pins limit k s tracks =
+    pass_ways_by ways pins limit (nets_below k.nets) (is_behind k s) (node_line s.p_end s.n_end ∷ []) (λ net. false)
+    tracks
+
+-- the same where nets go straight
+abbrev pub pass_ways :
+    Pins → ℕ → List NetNo → (NetNo → Bool) → List Line → (NetNo → Bool) → List NetTrack → List (List NetTrack)
+pass_ways = pass_ways_by line_ways
+
+abbrev pub goes_ways : Pins → ℕ → Kinds → State → List NetTrack → Step → List (List NetTrack)
+goes_ways = goes_ways_by line_ways
+
 abbrev pub ends_ways : Pins → ℕ → Kinds → State → List NetTrack → List (List NetTrack)
-ends_ways pins limit k s tracks =
-    pass_ways pins limit (nets_below k.nets) (is_behind k s) (node_line s.p_end s.n_end ∷ []) (λ net. false) tracks
+ends_ways = ends_ways_by line_ways
 
 -- the nets with a place before the state after a next column
 abbrev pub is_behind_step : Kinds → State → Step → NetNo → Bool

@@ -1,6 +1,7 @@
-ghost use Rattle.std.specs.Prelude.{◌≡◌, ◌&&◌, ltb};
+// Whether tracks go together at a line, and on its two sides.
+ghost use Rattle.std.specs.Prelude.{◌≡◌, ◌&&◌, ◌||◌, [], ltb};
 ghost use Rattle.std.specs.List.{list_all, list_any};
-ghost use Rattle.track_ways.specs.Ways.{are_apart, is_listed, line_test};
+ghost use Rattle.track_ways.specs.Ways.{are_apart, go_together, is_listed, line_test, test_beside};
 
 use crate::NetTrack;
 use crate::held::is_net;
@@ -39,8 +40,20 @@ fn fits_with(limit: u32, line: &Line, t: &NetTrack, tracks: &[NetTrack]) -> bool
     t.track < limit && are_all_apart(line, t, tracks)
 }
 
-/// Whether the track of a net goes with all of these at the line.
-pub(crate) fn goes_with(line: &Line, t: &NetTrack, tracks: &[NetTrack]) -> bool
+fn fit_line(limit: u32, line: &Line, tracks: &[NetTrack]) -> bool
+    ensures { result ≡ line_test limit line.now tracks.now }
+{
+    tracks.iter().all(|t| fits_with(limit, line, t, tracks))
+}
+
+/// Whether the tracks fit the line, with none on its other side.
+pub fn do_fit(limit: u32, line: &Line, tracks: &[NetTrack]) -> bool
+    ensures { result ≡ test_beside limit line.now [] tracks.now }
+{
+    fit_line(limit, line, tracks)
+}
+
+fn goes_along(line: &Line, t: &NetTrack, tracks: &[NetTrack]) -> bool
     ensures { result ≡ list_all (λ u. are_apart line.now t.now u && are_apart line.now u t.now) tracks.now }
 {
     tracks
@@ -48,9 +61,22 @@ pub(crate) fn goes_with(line: &Line, t: &NetTrack, tracks: &[NetTrack]) -> bool
         .all(|u| are_apart(line, t, u) && are_apart(line, u, t))
 }
 
-/// Whether the tracks fit the line.
-pub(crate) fn do_fit(limit: u32, line: &Line, tracks: &[NetTrack]) -> bool
-    ensures { result ≡ line_test limit line.now tracks.now }
+fn go_together(line: &Line, t: &NetTrack, u: &NetTrack) -> bool
+    ensures { result ≡ go_together line.now t.now u.now }
 {
-    tracks.iter().all(|t| fits_with(limit, line, t, tracks))
+    t.net.0 == u.net.0 || (are_apart(line, t, u) && are_apart(line, u, t))
+}
+
+fn goes_beside(line: &Line, t: &NetTrack, others: &[NetTrack]) -> bool
+    ensures { result ≡ list_all (go_together line.now t.now) others.now }
+{
+    others.iter().all(|u| go_together(line, t, u))
+}
+
+/// Whether the track of a net goes with the tracks on its side of the line and the others on the other side.
+pub(crate) fn goes_with(line: &Line, t: &NetTrack, tracks: &[NetTrack], others: &[NetTrack]) -> bool
+    ensures { result ≡ (list_all (λ u. are_apart line.now t.now u && are_apart line.now u t.now) tracks.now
+        && list_all (go_together line.now t.now) others.now) }
+{
+    goes_along(line, t, tracks) && goes_beside(line, t, others)
 }

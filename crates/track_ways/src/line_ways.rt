@@ -1,8 +1,8 @@
-// The tracks at a line, from those of the nets that are open before it.
-ghost use Rattle.std.specs.Prelude.{◌≡◌, ◌∷◌, ◌++◌, ◌||◌, filter, true, IfOk, OnOk};
+// The parts of a list of tracks at a line, and that list where nets go straight.
+ghost use Rattle.std.specs.Prelude.{◌≡◌, ◌∷◌, ◌++◌, ◌||◌, true, IfOk, OnOk};
 ghost use Rattle.track_ways.specs.Lines.{is_ahead};
 ghost use Rattle.track_ways.specs.Tables.{marked};
-ghost use Rattle.track_ways.specs.Ways.{fills, line_test, line_ways, missing, nets_below, open_of};
+ghost use Rattle.track_ways.specs.Ways.{line_ways, missing, nets_below, open_of, test_beside, ways_beside};
 
 use crate::fit::{do_fit, goes_with, is_listed};
 use crate::held::{is_held, is_open};
@@ -67,19 +67,20 @@ pub fn with_track(
     Ok(longer)
 }
 
-// Each way to give the nets tracks that fit the line. A track that doesn't go with those before it is dropped at once.
-#[tactic(auto, using(crate::proofs::Listing::fits_more, crate::proofs::Listing::fits_whole))]
-fn add_fills(
+/// Adds each way to give the nets tracks that fit the line beside the others, which are on its other side. A track that
+/// doesn't go with those before it is dropped at once.
+#[tactic(auto, using(crate::proofs::Listing::beside_more, crate::proofs::Listing::beside_whole))]
+pub fn add_beside(
     alloc: Global,
     limit: u32,
     line: &Line,
+    others: &[NetTrack],
     nets: &[NetNo],
     tracks: Vec<NetTrack>,
     ways: &mut TrackWays,
 ) -> Result<(), NoMemory>
-    requires fit { line_test limit line.now tracks.items ≡ true }
-    ensures { OnOk result (ways.new ≡ ways.old
-        ++ filter (line_test limit line.now) (fills limit nets.now tracks.items)) }
+    requires fit { test_beside limit line.now others.now tracks.items ≡ true }
+    ensures { OnOk result (ways.new ≡ ways.old ++ ways_beside limit line.now others.now nets.now tracks.items) }
 {
     let Some((net, rest)) = nets.split_first() else {
         ways.push(List::from_vec(tracks))?;
@@ -87,16 +88,16 @@ fn add_fills(
     };
     for track in 0..limit {
         let here = NetTrack { net: *net, track };
-        if goes_with(line, &here, &tracks) {
+        if goes_with(line, &here, &tracks, others) {
             let longer = with_track(alloc, here, &tracks)?;
-            add_fills(alloc, limit, line, rest, longer, ways)?;
+            add_beside(alloc, limit, line, others, rest, longer, ways)?;
         }
     }
     Ok(())
 }
 
-/// The tracks that fit the line and go on from those before it.
-pub(crate) fn tracks_at(
+/// The tracks that fit the line and go on from those before it where nets go straight.
+pub(crate) fn straight_at(
     alloc: Global,
     pins: &Pins,
     limit: u32,
@@ -115,6 +116,6 @@ pub(crate) fn tracks_at(
         return Ok(ways);
     }
     let missing = missing_nets(alloc, pins, nets, before, line, rest, behind, &tracks)?;
-    add_fills(alloc, limit, line, &missing, tracks, &mut ways)?;
+    add_beside(alloc, limit, line, &[], &missing, tracks, &mut ways)?;
     Ok(ways)
 }

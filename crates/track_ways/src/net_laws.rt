@@ -21,8 +21,10 @@ ghost use Rattle.track_ways.specs.Lines.{is_ahead, is_open, Fits};
 ghost use Rattle.track_ways.specs.Channel.{AreTrunks};
 ghost use Rattle.track_ways.specs.Rows.{lines_before, lines_behind, lines_of_row};
 ghost use Rattle.track_ways.specs.States.{is_open_at, IsBehind};
-ghost use Rattle.track_ways.specs.Paths.{Runs, Leads, Goes, Ends};
-ghost use Rattle.track_ways.specs.Fails.{Fails};
+ghost use Rattle.track_ways.specs.Paths.{Ends, EndsBy, Goes, GoesBy, Leads, Runs};
+ghost use Rattle.track_ways.specs.Fails.{Fails, FailsBy};
+
+use crate::rule::TrackRule;
 
 /// Which nets are open after a prefix follows from its state. It does nothing: its contract is the law.
 pub fn open_by_states()
@@ -61,6 +63,38 @@ pub fn tracks_by_states()
         → ((track : NetNo → ℕ) (fewer : ℕ) → fewer < limit → Runs pins fewer k (start_of k) track steps → ⊥)
         → AreTrunks (placement_of (map (column_of k) steps)) pins of trunks
         → IsLegal (placement_of (map (column_of k) steps)) pins (wiring_of limit trunks) }
+{}
+
+/// The rules by which it is shown that no completion of a state has tracks below a limit, where any rule says how
+/// tracks go through a line. It does nothing: its contract is the law.
+pub fn failures_by<R: TrackRule>()
+    // each next column fails that does not cost more than the gaps, whatever the tracks after it are: of these the
+    // ones of the open nets are listed
+    ensures branch { (pins : Pins) (limit : ℕ) (k : Kinds) (s : State) (track : NetNo → ℕ) (gaps : ℕ)
+        → GatesAreNets k → HasFingers k s
+        → ((step : Step) (next : NetNo → ℕ) (left : ℕ) → IsPossible k s step
+        → cost_of s (column_of k step) + left ≡ gaps → GoesBy R.fits pins limit k s track step next
+        → (listed : NetNo → ℕ)
+        × ((net : NetNo) → is_open_at pins k (state_after k s step) net ≡ true → next net ≡ listed net)
+        × FailsBy R.fits pins limit k (state_after k s step) listed left)
+        → FailsBy R.fits pins limit k s track gaps }
+    // no finger is left, and no tracks go through the last line
+    ensures at_end { (pins : Pins) (limit : ℕ) (k : Kinds) (s : State) (track : NetNo → ℕ) (gaps : ℕ)
+        → GatesAreNets k → (HasFingers k s → ⊥) → (EndsBy R.fits pins limit k s track → ⊥)
+        → FailsBy R.fits pins limit k s track gaps }
+    // the state needs more gaps
+    ensures needs_more { (pins : Pins) (limit : ℕ) (k : Kinds) (s : State) (track : NetNo → ℕ) (gaps bound : ℕ)
+        → GatesAreNets k → Need k s bound → gaps < bound → FailsBy R.fits pins limit k s track gaps }
+    // it fails with as many gaps or more, and with the same tracks for its open nets
+    ensures weaker { (pins : Pins) (limit : ℕ) (k : Kinds) (s : State) (track other : NetNo → ℕ) (gaps fewer : ℕ)
+        → GatesAreNets k → fewer ≤ gaps
+        → ((net : NetNo) → is_open_at pins k s net ≡ true → other net ≡ track net)
+        → FailsBy R.fits pins limit k s track gaps → FailsBy R.fits pins limit k s other fewer }
+    // more nets are open than there are tracks
+    ensures too_many_open { (pins : Pins) (limit : ℕ) (k : Kinds) (s : State) (track : NetNo → ℕ) (gaps : ℕ)
+        (nets : List NetNo) → GatesAreNets k → ((n : ℕ) → count_by (λ (net : NetNo). net.0 == n) nets ≤ 1)
+        → All (λ net. is_open_at pins k s net ≡ true) nets → limit < length nets
+        → FailsBy R.fits pins limit k s track gaps }
 {}
 
 /// The rules by which it is shown that no completion of a state has tracks below a limit. It does nothing: its

@@ -1,5 +1,6 @@
-use Rattle.std.proofs.Common.{rules, ◌≡◌, ◌∙◌}
+use Rattle.std.proofs.Common.{rules, ◌≡◌, sym, ◌∙◌}
 use Rattle.track_ways.specs.Crowds.{end_uncrowded}
+use Rattle.track_ways.specs.StraightLaw.{straight_rule}
 use Rattle.track_ways.specs.Tables.{marked}
 use Rattle.track_ways.proofs.Crowded.{end_is, none_at_end}
 use Rattle.track_ways.proofs.Nets.{end_entries}
@@ -14,4 +15,4 @@ returns-clause-is c = end_is c.args.pins.now c.args.limit c.args.kinds.now c.arg
 pub returns-clause-crowded : goal.returns-clause-crowded
 returns-clause-crowded c =
     let is : c.none_crowded-free.result ≡ end_uncrowded c.args.pins.now c.args.limit c.args.kinds.now c.args.state.now = end_is c.args.pins.now c.args.limit c.args.kinds.now c.args.state.now (marked c.args.before.now) (marked c.no_nets-none.result) c.deref.result.now c.none_crowded-free.result (c.deref.ensures.value ∙ c.in_ok-lines.ensures) c.requires.before c.no_nets-none.ensures (search rules) in
-    none_at_end c.args.pins.now c.args.limit c.args.kinds.now c.args.state.now c.none_crowded-free.result c.show_limits.ensures c.requires.state is
+    λ crowded tracks. none_at_end straight_rule c.args.pins.now c.args.limit c.args.kinds.now c.args.state.now tracks c.show_limits.ensures c.requires.state (sym is ∙ crowded)

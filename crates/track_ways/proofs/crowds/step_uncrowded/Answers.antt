@@ -1,6 +1,7 @@
-use Rattle.std.proofs.Common.{rules, ◌≡◌, ap, ◌∙◌}
+use Rattle.std.proofs.Common.{rules, ◌≡◌, ap, sym, ◌∙◌}
 use Rattle.track_ways.specs.Crowds.{step_uncrowded}
 use Rattle.track_ways.specs.Paths.{lines_to}
+use Rattle.track_ways.specs.StraightLaw.{straight_rule}
 use Rattle.track_ways.specs.Tables.{marked}
 use Rattle.track_ways.proofs.Crowded.{none_through, step_is}
 use Rattle.track_ways.proofs.Nets.{entries}
@@ -15,4 +16,4 @@ returns-clause-is c = step_is c.args.pins.now c.args.limit c.args.kinds.now c.ar
 pub returns-clause-crowded : goal.returns-clause-crowded
 returns-clause-crowded c =
     let is : c.none_crowded-free.result ≡ step_uncrowded c.args.pins.now c.args.limit c.args.kinds.now c.args.state.now c.args.step.now = step_is c.args.pins.now c.args.limit c.args.kinds.now c.args.state.now c.args.step.now (marked c.args.before.now) (marked c.args.after.now) c.deref.result.now c.none_crowded-free.result (c.deref.ensures.value ∙ c.in_ok-lines.ensures ∙ ap (lines_to c.args.state.now) c.column.ensures) c.requires.before c.requires.after (search rules) in
-    none_through c.args.pins.now c.args.limit c.args.kinds.now c.args.state.now c.args.step.now c.none_crowded-free.result c.show_limits.ensures c.requires.state is
+    λ crowded tracks. none_through straight_rule c.args.pins.now c.args.limit c.args.kinds.now c.args.state.now c.args.step.now tracks c.show_limits.ensures c.requires.state (sym is ∙ crowded)

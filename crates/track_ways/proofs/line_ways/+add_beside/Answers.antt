@@ -1,11 +1,11 @@
 use Rattle.std.proofs.Common.{rules, ◌≡◌, ◌∙◌, ◌∷◌, ◌<◌, true, sym, ap}
 use Rattle.track_ways.specs.Ways.{on_track}
-use Rattle.piece_ways.proofs.Listing.{dropped, goes, pieces_next, taken}
-use Rattle.piece_ways.proofs.line_ways.+add_pieces.Goals as goal
-use Rattle.piece_ways.proofs.line_ways.+add_pieces.Goals.{then-goes_with+in_ok-longer+in_ok-add_pieces, else-goes_with}
+use Rattle.track_ways.proofs.Listing.{dropped, goes, beside_next, taken}
+use Rattle.track_ways.proofs.line_ways.+add_beside.Goals as goal
+use Rattle.track_ways.proofs.line_ways.+add_beside.Goals.{then-goes_with+in_ok-longer+in_ok-add_beside, else-goes_with}
 
-pub add_pieces-requires : goal.add_pieces-requires
-add_pieces-requires t c =
+pub add_beside-requires : goal.add_beside-requires
+add_beside-requires t c =
     let is : c.deref.result.now ≡ c.args.tracks.items = search rules in
     let test : c.goes_with.result ≡ goes c.args.line.now (on_track c.in-Some.net.now c.loop-track.track) c.deref.result.now c.args.others.now = search rules in
     let longer_is : c.in_ok-longer.longer.items ≡ on_track c.in-Some.net.now c.loop-track.track ∷ c.args.tracks.items = search rules in
@@ -18,8 +18,8 @@ loop-track-preserved t c =
     let is : c.deref.result.now ≡ c.args.tracks.items = search rules in
     let test : c.goes_with.result ≡ goes c.args.line.now (on_track c.in-Some.net.now c.loop-track.track) c.deref.result.now c.args.others.now = search rules in
     elim c.if-goes_with.branch [
-      | then-goes_with+in_ok-longer+in_ok-add_pieces w ↦
-          pieces_next c.args.limit c.args.line.now c.args.others.now c.in-Some.net.now c.in-Some.rest.now c.args.tracks.items w.in_ok-longer.longer.items c.loop-track.track c.args.ways.now c.loop-track.ways c.if-goes_with.ways c.loop-track.invariant (search rules) (search rules)
+      | then-goes_with+in_ok-longer+in_ok-add_beside w ↦
+          beside_next c.args.limit c.args.line.now c.args.others.now c.in-Some.net.now c.in-Some.rest.now c.args.tracks.items w.in_ok-longer.longer.items c.loop-track.track c.args.ways.now c.loop-track.ways c.if-goes_with.ways c.loop-track.invariant (search rules) (search rules)
       | else-goes_with w ↦
           dropped c.args.limit c.args.line.now c.args.others.now c.in-Some.net.now c.in-Some.rest.now c.args.tracks.items c.loop-track.track c.args.ways.now c.if-goes_with.ways
           (sym (test ∙ ap (λ ts. goes c.args.line.now (on_track c.in-Some.net.now c.loop-track.track) ts c.args.others.now) is) ∙ w.if-goes_with.false) (w.ways-is ∙ c.loop-track.invariant)
