@@ -1,13 +1,12 @@
 -- A table of nets below others stays sound.
 use Rattle.std.proofs.Common.{ℕ, zero, suc, ◌≡◌, ◌<◌, ◌⊎◌, ◌++◌, true, false, List, get_or, replicate, slice_set, inl, inr, refl, sym, subst, ap, ◌∙◌}
-use Rattle.std.proofs.lemmas.Bool.{cases_eq}
+use Rattle.std.proofs.lemmas.Bool.{both_ways, cases_eq}
 use Rattle.std.proofs.lemmas.List.{get_or-set_other}
 use Rattle.std.proofs.lemmas.List.Elements.{Contains-append_left}
 use Rattle.std.proofs.lemmas.Nat.{same_from_place}
 use Rattle.track_ways.proofs.Complete.{net_same}
 use Rattle.row_cycles.specs.declared.above.NetAbove.{NetAbove}
 use Rattle.row_cycles.specs.Above.{Follows, IsAbove}
-use Rattle.row_cycles.proofs.Loops.{not_both}
 use Rattle.row_cycles.proofs.Paths.{above_more}
 use Rattle.cycle_search.specs.declared.below.Below.{Below}
 use Rattle.cycle_search.specs.Below.{IsSound, place_of}
@@ -19,7 +18,7 @@ none_marked (suc n) (suc u) = none_marked n u
 
 pub none_sound : (pairs : List NetAbove) (below : Below) (n : ℕ) → below.marks.items ≡ replicate n false → IsSound pairs below
 none_sound pairs below n is a h =
-    absurd (not_both (get_or below.marks.items (place_of below.nets a) false) h.1 (ap (λ ms. get_or ms (place_of below.nets a) false) is ∙ none_marked n (place_of below.nets a)))
+    absurd (both_ways (get_or below.marks.items (place_of below.nets a) false) (ap (λ ms. get_or ms (place_of below.nets a) false) is ∙ none_marked n (place_of below.nets a)) h.1)
 
 -- one mark more
 set_sound : (pairs : List NetAbove) (before after : Below) (a : NetAbove) → after.nets ≡ before.nets → a.lower.0 < before.nets → after.marks.items ≡ slice_set before.marks.items (place_of before.nets a) true → IsSound pairs before → Follows pairs a → IsSound pairs after

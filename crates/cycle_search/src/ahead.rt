@@ -15,8 +15,9 @@ use crate::asked::Asked;
 use crate::needed::add_known;
 use crate::ways::add_cycle;
 use cell_num::{NoMemory, Pins};
-use row_cycles::{AboveList, NetAbove, NotedCycles, add_end, add_step, has_cycle, needs_more};
-use row_state::{Candidate, Candidates, Kinds, Numbered, RowBound, has_fingers};
+use row_cycles::{AboveList, NetAbove, NotedCycles, add_end, add_step, has_cycle};
+use row_needs::GapBound;
+use row_state::{Candidate, Candidates, Kinds, Numbered, has_fingers};
 use std::alloc::Global;
 
 /// What a search is given.
@@ -47,7 +48,7 @@ pub(crate) struct Ahead {
 }
 
 // What the lines from the state up to the column ask for.
-fn new_pairs<B: RowBound>(
+fn new_pairs<B: GapBound>(
     task: &Task<B>,
     at: &Numbered,
     next: &Candidate,
@@ -65,7 +66,7 @@ fn new_pairs<B: RowBound>(
 }
 
 // What is ahead where neither a bound nor a cycle refutes it. Else it adds what the cycle needs.
-fn reached<B: RowBound>(
+fn reached<B: GapBound>(
     task: &Task<B>,
     at: &Numbered,
     asked: &Asked,
@@ -87,7 +88,7 @@ fn reached<B: RowBound>(
 {
     task.kinds.show_limits();
     let state = at.behind(task.alloc, task.kinds, next)?;
-    if needs_more(task.bound, task.kinds, &state.state, left) {
+    if task.bound.needs_more(task.kinds, &state, left) {
         return Ok(None);
     }
     let new = new_pairs(task, at, next)?;
@@ -104,7 +105,7 @@ fn reached<B: RowBound>(
 }
 
 // What is ahead where no lemma refutes it either. Else it adds what the lemma needs.
-fn open_ahead<B: RowBound>(
+fn open_ahead<B: GapBound>(
     task: &Task<B>,
     known: &NotedCycles,
     at: &Numbered,
@@ -135,7 +136,7 @@ fn open_ahead<B: RowBound>(
 
 /// The state after the column, or none where the column may not come next, needs more gaps than are allowed, or is
 /// refuted: by a bound, by a cycle or by a lemma. Then it adds the pairs that the refutation needs.
-pub(crate) fn state_ahead<B: RowBound>(
+pub(crate) fn state_ahead<B: GapBound>(
     task: &Task<B>,
     known: &NotedCycles,
     at: &Numbered,
@@ -189,7 +190,7 @@ pub(crate) fn add_failed(
 }
 
 // Whether the last line closes a cycle with what the lines before ask for.
-fn ends_in_cycle<B: RowBound>(
+fn ends_in_cycle<B: GapBound>(
     task: &Task<B>,
     at: &Numbered,
     asked: &Asked,
@@ -207,7 +208,7 @@ fn ends_in_cycle<B: RowBound>(
 
 /// Whether no finger is left and the last line closes no cycle. Where it closes one, it adds the pairs that the cycle
 /// needs.
-pub(crate) fn ends<B: RowBound>(
+pub(crate) fn ends<B: GapBound>(
     task: &Task<B>,
     at: &Numbered,
     asked: &Asked,

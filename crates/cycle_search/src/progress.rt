@@ -11,7 +11,8 @@ ghost use Rattle.cell_num.specs.declared.halt.Halt.TheVariants.{Spent};
 use crate::ahead::Task;
 use cell_num::{Halt, NoMemory};
 use row_cycles::{CycleLemma, CycleLemmas, NotedCycles, Places};
-use row_state::{Numbered, RowBound};
+use row_needs::GapBound;
+use row_state::Numbered;
 use std::alloc::Global;
 
 /// What a search knows so far: the lemmas that it kept, and where those on each state are.
@@ -45,7 +46,7 @@ impl Progress {
     }
 
     // Whether an earlier lemma says as much.
-    fn is_idle<B: RowBound>(&self, task: &Task<B>, at: &Numbered, lemma: &CycleLemma) -> bool
+    fn is_idle<B: GapBound>(&self, task: &Task<B>, at: &Numbered, lemma: &CycleLemma) -> bool
         requires numbered { IsNumbered task.now.kinds.now at.now }
         requires within { IsWithin task.now.kinds.now task.now.gaps lemma.now }
         requires noted { AreNoted task.now.kinds.now self.now.lemmas self.now.places }
@@ -69,7 +70,7 @@ impl Progress {
 
     /// Keeps the lemma, but where it follows from an earlier one. The budget is spent where there is then one lemma too
     /// many.
-    pub(crate) fn keep<B: RowBound>(
+    pub(crate) fn keep<B: GapBound>(
         &mut self,
         task: &Task<B>,
         at: &Numbered,

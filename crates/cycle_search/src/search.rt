@@ -15,7 +15,8 @@ use crate::visit::visit;
 use cell_num::{Halt, NoMemory, Pins};
 use row_cycles::{CycleLemmas, numbered_start, row_of};
 use row_model::Arrangement;
-use row_state::{Kinds, Numbered, RowBound, candidates};
+use row_needs::GapBound;
+use row_state::{Kinds, Numbered, candidates};
 use std::alloc::Global;
 
 /// What the search for a row without a cycle ends with.
@@ -30,7 +31,7 @@ pub enum WiredRow {
 }
 
 // The first row from the start, or none: then the lemmas are a certificate.
-fn search_start<B: RowBound>(
+fn search_start<B: GapBound>(
     task: &Task<B>,
     first: &Numbered,
     progress: &mut Progress,
@@ -65,7 +66,7 @@ fn search_start<B: RowBound>(
 }
 
 // The search from the start.
-fn search_task<B: RowBound>(task: &Task<B>, first: &Numbered) -> Result<WiredRow, NoMemory>
+fn search_task<B: GapBound>(task: &Task<B>, first: &Numbered) -> Result<WiredRow, NoMemory>
     requires candidates { AreCandidates task.now.kinds.now task.now.candidates.now }
     requires state { first.now.state ≡ start_of task.now.kinds.now }
     requires numbered { IsNumbered task.now.kinds.now first.now }
@@ -86,7 +87,7 @@ fn search_task<B: RowBound>(task: &Task<B>, first: &Numbered) -> Result<WiredRow
 
 /// The first row of the kinds' fingers with at most that many gaps whose lines put no nets above others in a cycle; or
 /// a certificate that each such row has a cycle; or neither, where the search needs more lemmas than the budget.
-pub fn wired_row<B: RowBound>(
+pub fn wired_row<B: GapBound>(
     alloc: Global,
     bound: &B,
     pins: &Pins,

@@ -14,10 +14,11 @@ use crate::order::in_order;
 use crate::progress::Progress;
 use cell_num::{Halt, NoMemory};
 use row_cycles::{AboveList, CycleLemma, NetAbove, cycles_by_lemmas};
-use row_state::{Numbered, RowBound, Steps};
+use row_needs::GapBound;
+use row_state::{Numbered, Steps};
 
 // The lemma on the state that asks for these pairs, in order.
-fn lemma_of<B: RowBound>(
+fn lemma_of<B: GapBound>(
     task: &Task<B>,
     at: &Numbered,
     gaps: u32,
@@ -38,7 +39,7 @@ fn lemma_of<B: RowBound>(
 
 /// The first completion of the state with at most as many gaps as are allowed whose lines close no cycle with what
 /// those before ask for, its last step first, or none: then a kept lemma is about the state.
-pub(crate) fn visit<B: RowBound>(
+pub(crate) fn visit<B: GapBound>(
     task: &Task<B>,
     progress: &mut Progress,
     at: &Numbered,
@@ -62,6 +63,7 @@ pub(crate) fn visit<B: RowBound>(
         task.now.kinds.now task.now.gaps task.now.budget) }
 {
     task.kinds.show_limits();
+    task.bound.show_holds();
     cycles_by_lemmas(task.bound);
     // the pairs that the refutations of the next columns need
     let mut need = AboveList::new(task.alloc);

@@ -1,6 +1,6 @@
 -- Nets below another one, found one after the other.
 use Rattle.std.proofs.Common.{ℕ, zero, suc, ◌≡◌, ◌-◌, ◌++◌, ◌⊎◌, Bool, true, false, List, [], ◌∷◌, length, take, take_all, drop, get_or, replicate, slice_set, inl, inr, refl, sym, subst, arith, Any, Contains, ◌∙◌}
-use Rattle.std.proofs.lemmas.Bool.{cases_Bool, cases_eq}
+use Rattle.std.proofs.lemmas.Bool.{both_ways, cases_Bool, cases_eq}
 use Rattle.std.proofs.lemmas.List.{get_or-set_other, length-drop, take-append-drop}
 use Rattle.std.proofs.lemmas.List.Elements.{All-contains, Contains-append_cases}
 use Rattle.cell_num.specs.declared.net.NetNo.{NetNo}
@@ -10,7 +10,6 @@ use Rattle.track_ways.proofs.Complete.{net_same}
 use Rattle.row_cycles.specs.declared.above.NetAbove.{NetAbove}
 use Rattle.row_cycles.specs.Above.{HasCycle, IsAbove, LeadsDown, over}
 use Rattle.row_cycles.specs.Down.{AreAllFound, IsAtOrBelow, IsNew, IsNext}
-use Rattle.row_cycles.proofs.Loops.{not_both}
 use Rattle.row_cycles.proofs.Paths.{above_joined, first_pair, one_above}
 
 abbrev pub AreBelow : List NetAbove → NetNo → List Bool → Type 0
@@ -22,7 +21,7 @@ none_found (suc n) zero = refl
 none_found (suc n) (suc u) = none_found n u
 
 pub first_below : (above : List NetAbove) (upper : NetNo) → AreBelow above upper (replicate 256 false)
-first_below above upper net e = absurd (not_both (marked (replicate 256 false) net) e (none_found 256 net.0))
+first_below above upper net e = absurd (both_ways (marked (replicate 256 false) net) (none_found 256 net.0) e)
 
 -- what is next is below
 next_below : (above : List NetAbove) (upper : NetNo) (found : List Bool) (a : NetAbove) → IsNext above upper found a → AreBelow above upper found → IsAbove above upper a.lower

@@ -1,17 +1,15 @@
 -- What a loop over a list shows, and what a Bool answers.
 use Rattle.std.proofs.Common.{ℕ, ◌≡◌, ◌+◌, ◌<◌, ◌≤◌, ◌↔◌, Bool, true, false, List, length, get_or, take, take_all, refl, sym, subst, All, Any}
 use Rattle.std.specs.Prelude.{IsTrue}
+use Rattle.std.proofs.lemmas.Bool.{both_ways}
 use Rattle.std.proofs.lemmas.List.Elements.{All-contains, All-get_or, All-more}
 use Rattle.cell_num.proofs.Pairs.{Some', some_from_any}
-
-pub not_both : (b : Bool) → b ≡ true → b ≡ false → ⊥
-not_both b e f = absurd cc
 
 pub yes_from : {P : Type 0} → P → IsTrue true ↔ P
 yes_from h = ((λ _. h), (λ _. refl))
 
 pub no_from : {P : Type 0} → (P → ⊥) → IsTrue false ↔ P
-no_from none = ((λ e. absurd (not_both false e refl)), (λ h. absurd (none h)))
+no_from none = ((λ e. absurd (both_ways false refl e)), (λ h. absurd (none h)))
 
 -- an item of the list, as the loop names it
 pub any_here : {X : Type 0} (P : X → Type 0) (xs : List X) (i : ℕ) (x : X) → x ≡ get_or xs i x → i < length xs → P x → Any P xs

@@ -22,11 +22,12 @@ use crate::{
     is_justified,
 };
 use cell_num::{NoMemory, Pins};
-use row_state::{Kinds, Numbered, RowBound, candidates, code, start};
+use row_needs::GapBound;
+use row_state::{Kinds, Numbered, candidates, code, start};
 use std::alloc::Global;
 
 // Whether the lemma at the place is justified by those before it.
-fn is_justified_at<B: RowBound>(
+fn is_justified_at<B: GapBound>(
     alloc: Global,
     grounds: &CycleGrounds<B>,
     lemmas: &[CycleLemma],
@@ -67,7 +68,7 @@ pub fn note_lemma(
 }
 
 /// The place of the first lemma that is not justified by those before it. Where there is none, all lemmas are noted.
-pub fn first_unjustified<B: RowBound>(
+pub fn first_unjustified<B: GapBound>(
     alloc: Global,
     grounds: &CycleGrounds<B>,
     lemmas: &[CycleLemma],
@@ -92,7 +93,7 @@ pub fn first_unjustified<B: RowBound>(
 /// Checks a certificate that no row of the kinds' fingers with at most N gaps can be wired: each lemma is justified by
 /// those before it, and one is on the start state and the gaps and asks for nothing. Else the first cause to refuse
 /// it.
-pub fn check_cycles<B: RowBound>(
+pub fn check_cycles<B: GapBound>(
     alloc: Global,
     bound: &B,
     pins: &Pins,

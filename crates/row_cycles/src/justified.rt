@@ -11,14 +11,15 @@ ghost use Rattle.row_cycles.specs.Steps.{LeftIsRefuted, StepIsRefuted};
 
 use crate::{
     AboveList, CycleLemma, NetAbove, NotedCycles, add_end, add_step, has_cycle, has_cycle_from,
-    left_after, needs_more,
+    left_after,
 };
 use cell_num::{NoMemory, Pins};
-use row_state::{Candidate, Candidates, Kinds, Numbered, RowBound, has_fingers, is_state};
+use row_needs::GapBound;
+use row_state::{Candidate, Candidates, Kinds, Numbered, has_fingers, is_state};
 use std::alloc::Global;
 
-/// What lemmas on cycles may rest on beside earlier ones: the cell, all columns that may ever come next, and the bound
-/// of a row.
+/// What lemmas on cycles may rest on beside earlier ones: the cell, all columns that may ever come next, and a bound
+/// on gaps.
 #[derive(Clone, Copy)]
 pub struct CycleGrounds<'a, B> {
     pub kinds: &'a Kinds,
@@ -55,7 +56,7 @@ fn asked(alloc: Global, lemma: &CycleLemma) -> Result<AboveList, NoMemory>
 }
 
 // Whether the state after the column is refuted, with that many gaps left.
-fn left_is_refuted<B: RowBound>(
+fn left_is_refuted<B: GapBound>(
     alloc: Global,
     grounds: &CycleGrounds<B>,
     earlier: &NotedCycles,
@@ -82,14 +83,14 @@ fn left_is_refuted<B: RowBound>(
         return Ok(true);
     }
     let after = from.behind(alloc, kinds, next)?;
-    if needs_more(grounds.bound, kinds, &after.state, left) {
+    if grounds.bound.needs_more(kinds, &after, left) {
         return Ok(true);
     }
     Ok(earlier.covers(&after, left, above.as_slice()))
 }
 
 // Whether the column leaves the lemma justified.
-fn step_is_refuted<B: RowBound>(
+fn step_is_refuted<B: GapBound>(
     alloc: Global,
     grounds: &CycleGrounds<B>,
     earlier: &NotedCycles,
@@ -115,7 +116,7 @@ fn step_is_refuted<B: RowBound>(
 
 // Whether each next column leaves the lemma justified.
 #[tactic(auto, using(crate::proofs::Left::candidate_is))]
-fn steps_are_refuted<B: RowBound>(
+fn steps_are_refuted<B: GapBound>(
     alloc: Global,
     grounds: &CycleGrounds<B>,
     earlier: &NotedCycles,
@@ -162,15 +163,17 @@ fn end_is_refuted(
 }
 
 // Whether each next column leaves the lemma justified, and the end of a row does.
-fn branches<B: RowBound>(
+fn branches<B: GapBound>(
     alloc: Global,
     grounds: &CycleGrounds<B>,
     earlier: &NotedCycles,
     lemma: &CycleLemma,
+    from: &Numbered,
 ) -> Result<bool, NoMemory>
     requires candidates { AreCandidates grounds.now.kinds.now grounds.now.candidates.now }
-    requires valid { IsState grounds.now.kinds.now lemma.now.state }
     requires nets { All (HasNets grounds.now.kinds.now.nets) lemma.now.above }
+    requires numbered { IsNumbered grounds.now.kinds.now from.now }
+    requires state { from.now.state ≡ lemma.now.state }
     requires noted { AreNoted grounds.now.kinds.now earlier.now.lemmas.now earlier.now.places.now }
     ensures { IfOk result (λ refuted. IsTrue refuted ↔ Branches (B.value grounds.now.bound.now) grounds.now.pins.now
         grounds.now.kinds.now earlier.now.lemmas.now lemma.now) }
@@ -182,14 +185,12 @@ fn branches<B: RowBound>(
     if !end_is_refuted(alloc, grounds.kinds, grounds.pins, lemma)? {
         return Ok(false);
     }
-    let state = lemma.state.copied()?;
-    let from = Numbered::new(state, grounds.kinds);
-    let refuted = steps_are_refuted(alloc, grounds, earlier, lemma, &from)?;
+    let refuted = steps_are_refuted(alloc, grounds, earlier, lemma, from)?;
     Ok(refuted)
 }
 
 /// Whether the lemma is justified by the earlier ones.
-pub fn is_justified<B: RowBound>(
+pub fn is_justified<B: GapBound>(
     alloc: Global,
     grounds: &CycleGrounds<B>,
     earlier: &NotedCycles,
@@ -207,9 +208,11 @@ pub fn is_justified<B: RowBound>(
     if !have_nets(lemma.above.as_slice(), kinds.nets) {
         return Ok(false);
     }
-    if needs_more(grounds.bound, kinds, &lemma.state, lemma.gaps) {
+    let state = lemma.state.copied()?;
+    let from = Numbered::new(state, kinds);
+    if grounds.bound.needs_more(kinds, &from, lemma.gaps) {
         return Ok(true);
     }
-    let refuted = branches(alloc, grounds, earlier, lemma)?;
+    let refuted = branches(alloc, grounds, earlier, lemma, &from)?;
     Ok(refuted)
 }

@@ -1,32 +1,11 @@
 // Whether an earlier lemma is about a state and what lines ask for.
-ghost use Rattle.std.specs.Prelude.{◌≡◌, ◌<◌, ◌↔◌, All, Any, IsTrue, false};
-ghost use Rattle.row_state.specs.Start.{IsState};
-ghost use Rattle.track_ways.specs.Certificate.{NeedsMore};
+ghost use Rattle.std.specs.Prelude.{◌≡◌, ◌↔◌, All, Any, IsTrue, false};
 ghost use Rattle.row_cycles.specs.Above.{Follows, HasNets};
 ghost use Rattle.row_cycles.specs.Certificate.{Covers};
 ghost use Rattle.row_cycles.specs.Noted.{AreNotedAt, IsPassedBy};
 
 use crate::{CycleLemma, NetAbove, Places, is_above};
-use cell_num::Row;
-use row_state::{Kinds, Numbered, RowBound, State};
-
-fn row_needs_more<B: RowBound>(bound: &B, row: Row, kinds: &Kinds, state: &State, gaps: u32) -> bool
-    requires state { IsState kinds.now state.now }
-    ensures { IsTrue result ↔ (gaps < B.value bound.now row state.now kinds.now) }
-{
-    gaps < bound.bound(row, state, kinds)
-}
-
-/// Whether the bound of a row is above the gaps: each completion of the state has more.
-pub fn needs_more<B: RowBound>(bound: &B, kinds: &Kinds, state: &State, gaps: u32) -> bool
-    requires state { IsState kinds.now state.now }
-    ensures { IsTrue result ↔ NeedsMore (B.value bound.now) kinds.now state.now gaps }
-{
-    if row_needs_more(bound, Row::P, kinds, state, gaps) {
-        return true;
-    }
-    row_needs_more(bound, Row::N, kinds, state, gaps)
-}
+use row_state::{Numbered, State};
 
 fn is_same(a: &State, b: &State) -> bool
     ensures { IsTrue result ↔ (a.now ≡ b.now) }

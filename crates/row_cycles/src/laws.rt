@@ -17,23 +17,25 @@ ghost use Rattle.row_cycles.specs.Above.{HasCycle, above_of};
 ghost use Rattle.row_cycles.specs.Certificate.{AreJustified, Certifies};
 ghost use Rattle.row_cycles.specs.Unwired.{IsTrueOf};
 
-use row_state::RowBound;
+use row_needs::GapBound;
 
 /// Justified lemmas are true, so a certificate shows that no arrangement of the fingers with at most that many gaps has
 /// a legal routing. It does nothing: its contract is the law.
-pub fn cycles_by_lemmas<B: RowBound>(_bound: &B)
+pub fn cycles_by_lemmas<B: GapBound>(bound: &B)
     ensures lemmas { (pins : Pins) (k : Kinds) (lemmas : List CycleLemma) → AreSomeKinds k
-        → AreJustified (B.value _bound.now) pins k lemmas → All (IsTrueOf pins k) lemmas }
+        → AreJustified (B.value bound.now) pins k lemmas → All (IsTrueOf pins k) lemmas }
     // each arrangement with at most that many gaps has a cycle
     ensures cycle { (pins : Pins) (f : Fingers) (k : Kinds) (gaps : ℕ) (lemmas : List CycleLemma)
-        → AreKinds f k → AreSomeKinds k → Certifies (B.value _bound.now) pins k gaps lemmas
+        → AreKinds f k → AreSomeKinds k → Certifies (B.value bound.now) pins k gaps lemmas
         → (row : List Column) → IsArrangement row f → gaps_of row ≤ gaps
         → HasCycle (above_of pins (lines_of_row row)) }
     ensures unwired { (pins : Pins) (f : Fingers) (k : Kinds) (gaps : ℕ) (lemmas : List CycleLemma)
-        → AreKinds f k → AreSomeKinds k → Certifies (B.value _bound.now) pins k gaps lemmas
+        → AreKinds f k → AreSomeKinds k → Certifies (B.value bound.now) pins k gaps lemmas
         → (row : List Column) (r : Routing) → IsArrangement row f → gaps_of row ≤ gaps
         → IsLegal (placement_of row) pins r → ⊥ }
-{}
+{
+    bound.show_holds();
+}
 
 /// A row can be wired exactly where its lines put no nets above others in a cycle. It does nothing: its contract is the
 /// law.

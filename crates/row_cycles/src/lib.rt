@@ -18,7 +18,7 @@ pub use above::{AboveList, NetAbove};
 pub use check::{check_cycles, first_unjustified, note_lemma};
 pub use down::{has_cycle, has_cycle_from, is_above};
 pub use justified::{CycleGrounds, is_justified};
-pub use known::{NotedCycles, all_follow, covers, needs_more};
+pub use known::{NotedCycles, all_follow, covers};
 pub use laws::{cycles_by_lemmas, wired_rows};
 pub use lemma::{CycleLemma, CycleLemmas};
 pub use lines::{add_end, add_step};

@@ -43,14 +43,18 @@ below_add k first old new at number valid is below others s state low has = elim
 
 -- ---- it has all of them
 
-record IsThere (k : Kinds) (needs : Needs) (s : State) : Type 0 where
-  valid : IsState k s
-  has : HasRest k needs s
+pub record IsThere (k : Kinds) (needs : Needs) (s : State) : Type 0 where
+  pub valid : IsState k s
+  pub has : HasRest k needs s
 
 there_behind : (k : Kinds) (needs : Needs) → AreSomeKinds k → IsClosed k needs → (s : State) (steps : List Step) → IsThere k needs s → ComeInTurn k s steps → IsThere k needs (state_behind k s steps)
 there_behind k needs some closed s [] there turn = there
 there_behind k needs some closed s (x ∷ xs) there turn =
     there_behind k needs some closed (state_after k s x) xs (record { valid = after_valid k s x (ends_are_nets k some) there.valid turn.0; has = closed s x there.valid turn.0 there.has }) turn.1
+
+-- it has what is left in each state that next columns lead to
+pub there_led : (k : Kinds) (needs : Needs) (s : State) → AreSomeKinds k → IsClosed k needs → HasRest k needs (start_of k) → IsLedTo k s → IsThere k needs s
+there_led k needs s some closed start led = subst (IsThere k needs) led.behind (there_behind k needs some closed (start_of k) led.steps (record { valid = start_valid k; has = start }) led.turn)
 
 pub few_rests : (k : Kinds) (needs : Needs) (limit : ℕ) → AreSomeKinds k → IsClosed k needs → HasRest k needs (start_of k) → hash_map_len needs.rests ≤ limit → ManyRests k limit → ⊥
 few_rests k needs limit some closed start within many =
@@ -60,7 +64,7 @@ few_rests k needs limit some closed start within many =
     numbers = map (rows_code k) many.states
 
     there : All (IsThere k needs) many.states
-    there = All-weaker (IsLedTo k) (IsThere k needs) (λ s led. subst (IsThere k needs) led.behind (there_behind k needs some closed (start_of k) led.steps (record { valid = start_valid k; has = start }) led.turn)) many.states many.led
+    there = All-weaker (IsLedTo k) (IsThere k needs) (λ s led. there_led k needs s some closed start led) many.states many.led
 
     differ : (a b : State) → IsThere k needs a → IsThere k needs b → (SameLeft a b → ⊥) → nat_eq (rows_code k a) (rows_code k b) ≡ false
     differ a b ha hb apart = ne_eqb (rows_code k a) (rows_code k b) (λ same. apart (same_counts k a b ha.valid hb.valid same))

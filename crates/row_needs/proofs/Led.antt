@@ -20,9 +20,9 @@ use Rattle.row_state.specs.Start.{start_of}
 use Rattle.row_state.specs.Steps.{IsPossible, state_after}
 use Rattle.row_needs.specs.declared.needs.Needs.{Needs}
 use Rattle.row_needs.specs.declared.rest.Rest.{Rest}
-use Rattle.row_needs.specs.Best.{AreLedTo}
 use Rattle.row_needs.specs.Many.{ComeInTurn, IsLedTo, ManyRests, SameLeft, state_behind}
 use Rattle.row_needs.specs.Rest.{HasRest}
+use Rattle.row_needs.specs.Table.{AreLedTo}
 
 -- ---- next columns lead to a state
 

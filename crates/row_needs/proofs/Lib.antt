@@ -1,4 +1,7 @@
+pub mod Bounds
 pub mod Full
 pub mod Led
+pub mod OneValue
 pub mod Rests
+pub mod SameKinds
 pub mod Tables

@@ -91,7 +91,7 @@ gaps_le : (row : List Column) → gaps_of row ≤ length row
 gaps_le [] = omega arith
 gaps_le (c ∷ cs) = omega (arith, count_by-le-length is_gap (zip (c ∷ cs) cs), zip_end c cs)
 
-first_start : (f : Fingers) (rest : Rest) → IsRest f rest → (ends : LeftEnds) × IsStart f rest.gaps ends
+pub first_start : (f : Fingers) (rest : Rest) → IsRest f rest → (ends : LeftEnds) × IsStart f rest.gaps ends
 first_start f rest is = (get_or rest.starts 0 no_ends, All-get_or (IsStart f rest.gaps) rest.starts 0 no_ends is.some is.each)
 
 -- the rows have fewer gaps than columns

@@ -1,19 +1,16 @@
 -- The rows with the fewest gaps of those that begin with some of the next columns of a state.
-use Rattle.std.specs.Prelude.{ℕ, ◌≡◌, ◌≤◌, ◌<◌, ◌⊎◌, List, ◌∷◌, All, Contains, IsSome, length, nat_eq}
-use Rattle.std.specs.HashMap.{get}
+use Rattle.std.specs.Prelude.{ℕ, ◌≡◌, ◌≤◌, ◌<◌, ◌⊎◌, List, ◌∷◌, All, Contains, length}
 use Rattle.row_model.specs.declared.column.Column.{Column}
 use Rattle.row_model.specs.Gaps.{gaps_of}
 use Rattle.row_state.specs.declared.candidate.Candidate.{Candidate}
 use Rattle.row_state.specs.declared.kind.Kinds.{Kinds}
 use Rattle.row_state.specs.declared.state.State.{State}
 use Rattle.row_state.specs.Completion.{Completes, left_in}
-use Rattle.row_state.specs.Decoded.{rows_code}
 use Rattle.row_state.specs.Start.{IsState, columns_left}
 use Rattle.row_state.specs.Steps.{IsPossible, column_of, state_after}
 use Rattle.row_needs.specs.declared.left_ends.LeftEnds.{LeftEnds}
 use Rattle.row_needs.specs.declared.needs.Needs.{Needs}
 use Rattle.row_needs.specs.declared.rest.Rest.{Rest}
-use Rattle.row_needs.specs.Many.{IsLedTo}
 use Rattle.row_needs.specs.Rest.{HasRest, IsStart, ends_before}
 
 -- a row with that many gaps and these ends is taken into account
@@ -55,9 +52,3 @@ AddsBelow k columns before after = (s : State) → IsState k s → columns ≤ c
 -- it has what the column leaves
 abbrev pub HasNext : Kinds → State → Needs → Candidate → Type 0
 HasNext k s needs c = IsPossible k s c.step → HasRest k needs (state_after k s c.step)
-
--- each number of the table is that of a state that next columns lead to
-pub record AreLedTo (k : Kinds) (needs : Needs) : Type 0 where
-  pub state : ℕ → State
-  pub led : (q : ℕ) → IsSome (get nat_eq needs.rests q) → IsLedTo k (state q)
-  pub number : (q : ℕ) → IsSome (get nat_eq needs.rests q) → rows_code k (state q) ≡ q

@@ -37,7 +37,7 @@ abbrev pub differ : Option NetNo → Option NetNo → Bool
 differ (Some net) (Some other) = not (net.0 == other.0)
 differ _ _ = false
 
--- a row with these ends costs a gap behind the state
+-- there is a gap between the last column of the state and the first one of a row with these ends
 abbrev pub is_apart : State → LeftEnds → Bool
 is_apart s ends = differ s.p_end ends.p || differ s.n_end ends.n
 

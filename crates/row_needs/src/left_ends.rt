@@ -55,7 +55,7 @@ impl LeftEnds {
         }
     }
 
-    /// Whether a row with these ends costs a gap behind the state.
+    /// Whether there is a gap between the last column of the state and the first one of a row with these ends.
     pub(crate) fn is_apart(&self, state: &State) -> bool
         ensures { result ≡ is_apart state.now self.now }
     {

@@ -4,12 +4,15 @@ ghost use Rattle.cell_num.specs.declared.halt.Halt.TheVariants.{Spent};
 ghost use Rattle.row_state.specs.declared.kind.Kinds.{Kinds as KindsOf};
 ghost use Rattle.row_state.specs.Completion.{left_in};
 ghost use Rattle.std.specs.HashMap.{get, hash_map_len};
+ghost use Rattle.std.specs.Option.{option_map};
 ghost use Rattle.row_state.specs.Candidates.{AreCandidates, IsNumbered};
 ghost use Rattle.row_state.specs.Start.{columns_left, start_of};
-ghost use Rattle.row_needs.specs.Best.{AddsBelow, AreLedTo, IsBest, IsGrown};
+ghost use Rattle.row_needs.specs.declared.rest.Rest.{Rest as RestOf};
+ghost use Rattle.row_needs.specs.Best.{AddsBelow, IsBest, IsGrown};
 ghost use Rattle.row_needs.specs.Many.{IsLedTo, ManyRests};
 ghost use Rattle.row_needs.specs.Need.{IsNeed};
-ghost use Rattle.row_needs.specs.Rest.{AreRests, HasRest, IsClosed, IsRest};
+ghost use Rattle.row_needs.specs.Rest.{AreRests, HasRest, IsClosed, IsRest, need_at};
+ghost use Rattle.row_needs.specs.Table.{AreLedTo};
 
 use crate::{LeftEnds, Rest};
 use cell_num::{Halt, NoMemory};
@@ -66,7 +69,16 @@ impl Needs {
         }
     }
 
-    /// The need of the state, where the table has what it has left. Not called by the program.
+    /// The need of the state by the rows of what it has left, where the table has them.
+    pub(crate) fn read(&self, at: &Numbered) -> Option<u32>
+        requires few { (rest : RestOf) → get nat_eq self.now.rests at.now.counts ≡ Some rest → rest.gaps ≤ 32 }
+        ensures { result ≡ option_map (need_at at.now.state) (get nat_eq self.now.rests at.now.counts) }
+    {
+        let rest = self.rests.get(&at.counts)?;
+        Some(rest.need(&at.state))
+    }
+
+    /// The need of the state, where the table has what it has left.
     pub fn of(&self, kinds: &Kinds, at: &Numbered) -> Option<u32>
         requires numbered { IsNumbered kinds.now at.now }
         requires sound { AreRests kinds.now self.now }
@@ -74,9 +86,7 @@ impl Needs {
         ensures here { IfSome result (λ _. HasRest kinds.now self.now at.now.state) }
         ensures none { IfNone result (HasRest kinds.now self.now at.now.state → ⊥) }
     {
-        kinds.show_limits();
-        let rest = self.rests.get(&at.counts)?;
-        Some(rest.need(&at.state))
+        self.read(at)
     }
 }
 
@@ -143,11 +153,12 @@ fn need(task: &Task, needs: &mut Needs, at: &Numbered) -> Result<u32, Halt>
 
 impl Needs {
     /// The needs of the states that next columns lead to from the start state. It is spent where these states have more
-    /// different leftovers than the limit. Not called by the program.
+    /// different leftovers than the limit.
     pub fn new(alloc: Global, kinds: &Kinds, limit: usize) -> Result<Needs, Halt>
         ensures sound { IfOk result (AreRests kinds.now) }
         ensures start { IfOk result (λ needs. HasRest kinds.now needs (start_of kinds.now)) }
         ensures closed { IfOk result (IsClosed kinds.now) }
+        ensures led { IfOk result (AreLedTo kinds.now) }
         ensures few { IfOk result (λ _. ManyRests kinds.now limit → ⊥) }
         ensures spent { IfErr result (λ halt. halt ≡ Spent → ManyRests kinds.now limit) }
     {

@@ -69,7 +69,7 @@ impl Rest {
         Ok(())
     }
 
-    // Whether one of the rows costs no gap behind the state.
+    // Whether there is no gap between the last column of the state and the first one of some of the rows.
     fn goes_on(&self, state: &State) -> bool
         ensures { result ≡ list_any (λ e. not (is_apart state.now e)) self.now.starts }
     {

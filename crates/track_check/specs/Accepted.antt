@@ -1,13 +1,17 @@
 -- Which texts are accepted, and why others are not.
-use Rattle.std.specs.Prelude.{ℕ, ◌≡◌, ◌+◌, ◌-◌, ◌⊎◌, List, Any, Ok, Err, length}
+use Rattle.std.specs.Prelude.{ℕ, ◌≡◌, ◌+◌, ◌-◌, ◌⊎◌, List, [], Any, Ok, Err, length}
 use Rattle.cell_num.specs.declared.finger.Row.{Row}
 use Rattle.cell_num.specs.declared.net.Pins.{Pins}
 use Rattle.row_state.specs.declared.kind.Kinds.{Kinds}
 use Rattle.row_state.specs.declared.state.State.{State}
 use Rattle.row_state.specs.Start.{start_of}
 use Rattle.track_ways.specs.Certificate.{AreJustified, CoversAll}
+use Rattle.row_needs.specs.declared.need_bound.TheConstants.{MOST_LEFTOVERS}
+use Rattle.row_needs.specs.declared.need_bound.NeedBound.{NeedBound}
+use Rattle.row_needs.specs.Bound.{IsBoundOf, value_by}
+use Rattle.row_cycles.specs.declared.lemma.CycleLemma.{CycleLemma}
 use Rattle.row_cycles.specs.Certificate.{AreJustified as AreCyclesJustified, CoversAll as CycleCoversAll}
-use Rattle.row_cycles.specs.Refusal.{IsFirstUnjustified as IsFirstCycle}
+use Rattle.row_cycles.specs.Refusal.{IsFirstUnjustified as IsFirstUnjustifiedCycle}
 use Rattle.track_log.specs.declared.certificate.TrackCertificate.{TrackCertificate}
 use Rattle.track_log.specs.Fits.{CertificateFits}
 use Rattle.track_log.specs.Reading.{certificate_of}
@@ -16,6 +20,17 @@ use Rattle.track_check.specs.Refusal.{IsFirstUnjustified}
 use Rattle.track_check.specs.declared.accept.TracksProved.{TracksProved}
 use Rattle.track_check.specs.declared.rejected.TextRejected.{TextRejected}
 use Rattle.track_check.specs.declared.rejected.TextRejected.TheVariants as because
+
+-- Lemmas on cycles follow, by the exact need of each state, or by the component bound where the cell's states have too
+-- many different leftovers. Where there are none, no bound is asked for.
+abbrev pub CyclesFollow : Pins → Kinds → List CycleLemma → Type 0
+CyclesFollow pins k cycles =
+    (cycles ≡ []) ⊎ ((b : NeedBound) × IsBoundOf MOST_LEFTOVERS k b × AreCyclesJustified (value_by b) pins k cycles)
+
+-- the first of them that does not follow, by the same bound
+abbrev pub IsFirstCycle : Pins → Kinds → List CycleLemma → ℕ → Type 0
+IsFirstCycle pins k cycles at =
+    (b : NeedBound) × IsBoundOf MOST_LEFTOVERS k b × IsFirstUnjustifiedCycle (value_by b) pins k cycles at
 
 -- its lemmas on tracks are about one track fewer
 abbrev pub limit_of : TrackCertificate → ℕ
@@ -26,10 +41,10 @@ limit_of certificate = certificate.tracks - 1
 abbrev pub HasStart : Kinds → TrackCertificate → Type 0
 HasStart k c = Any (CoversAll (start_of k) c.gaps) c.lemmas ⊎ Any (CycleCoversAll (start_of k) c.gaps) c.cycles
 
--- all lemmas on cycles follow, and all lemmas on tracks
+-- all lemmas on cycles follow, and all lemmas on tracks by the bound
 pub record AreAllJustified
     (value : Row → State → Kinds → ℕ) (pins : Pins) (k : Kinds) (c : TrackCertificate) : Type 0 where
-  pub cycles : AreCyclesJustified value pins k c.cycles
+  pub cycles : CyclesFollow pins k c.cycles
   pub lemmas : AreJustified value pins (limit_of c) k c.lemmas
 
 -- so the lemmas certify what the lines of gaps and tracks say
@@ -52,14 +67,14 @@ pub record IsAccepted
 -- the first lemma on tracks that does not follow, where all lemmas on cycles do: they are counted before it
 pub record IsFirstTrack
     (value : Row → State → Kinds → ℕ) (pins : Pins) (k : Kinds) (c : TrackCertificate) (at : ℕ) : Type 0 where
-  pub cycles : AreCyclesJustified value pins k c.cycles
+  pub cycles : CyclesFollow pins k c.cycles
   pub place : ℕ
   pub at_is : at ≡ length c.cycles + place
   pub first : IsFirstUnjustified value pins (limit_of c) k c.lemmas place
 
 -- the first lemma that does not follow, by its place among all
 abbrev pub IsFirstAt : (Row → State → Kinds → ℕ) → Pins → Kinds → TrackCertificate → ℕ → Type 0
-IsFirstAt value pins k c at = IsFirstCycle value pins k c.cycles at ⊎ IsFirstTrack value pins k c at
+IsFirstAt value pins k c at = IsFirstCycle pins k c.cycles at ⊎ IsFirstTrack value pins k c at
 
 -- A certificate is read, and this is the line of its first lemma that does not follow; the first is at line 5.
 pub record IsUnjustifiedLine

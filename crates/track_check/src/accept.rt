@@ -17,7 +17,8 @@ use crate::TextRejected;
 use crate::certify::certify;
 use bound_log::LogFault;
 use cell_num::{MOST_BYTES, Name, Pins};
-use row_state::{Kinds, RowBound};
+use row_needs::GapBound;
+use row_state::Kinds;
 use std::alloc::Global;
 use track_log::read_tracks;
 
@@ -38,7 +39,7 @@ fn because_of(fault: LogFault) -> TextRejected
 }
 
 // The verdict on a text.
-fn judge<B: RowBound>(
+fn judge<B: GapBound>(
     alloc: Global,
     bound: &B,
     pins: &Pins,
@@ -68,8 +69,9 @@ fn judge<B: RowBound>(
 
 /// Checks the text of a certificate of tracks, for the cell of that name and the kinds of its fingers: it is read, and
 /// its lemmas show that each row with at most the gaps of its line needs the tracks of its line. Else the first cause
-/// to reject it. The name has 1 to 32 bytes and no line feed, and there are at most [`MOST_BYTES`] bytes.
-pub fn check_text<B: RowBound>(
+/// to reject it. Lemmas on tracks rest on the bound, those on cycles on that of the cell ([`row_needs::NeedBound`]).
+/// The name has 1 to 32 bytes and no line feed, and there are at most [`MOST_BYTES`] bytes.
+pub fn check_text<B: GapBound>(
     alloc: Global,
     bound: &B,
     pins: &Pins,

@@ -20,12 +20,13 @@ ghost use Rattle.track_check.specs.Touches.{AreTouches};
 use crate::{NotedLemmas, TrackGrounds, TracksRefused, is_justified, touches};
 use cell_num::{NoMemory, Pins};
 use row_cycles::Places;
-use row_state::{Kinds, Numbered, RowBound, candidates, code, start};
+use row_needs::GapBound;
+use row_state::{Kinds, Numbered, candidates, code, start};
 use std::alloc::Global;
 use track_ways::{TrackLemma, TrackLemmas};
 
 // Whether the lemma at the place is justified by those before it.
-fn is_justified_at<B: RowBound>(
+fn is_justified_at<B: GapBound>(
     alloc: Global,
     grounds: &TrackGrounds<B>,
     lemmas: &[TrackLemma],
@@ -68,7 +69,7 @@ fn note(
 }
 
 // The place of the first lemma that is not justified by those before it. Where there is none, all lemmas are noted.
-fn first_unjustified<B: RowBound>(
+fn first_unjustified<B: GapBound>(
     alloc: Global,
     grounds: &TrackGrounds<B>,
     lemmas: &[TrackLemma],
@@ -94,7 +95,7 @@ fn first_unjustified<B: RowBound>(
 /// Checks a certificate that each row of the kinds' fingers with at most N gaps needs more tracks than the limit:
 /// each lemma is justified by those before it, and one is about the start state, the gaps and any tracks. Else
 /// the first cause to refuse it.
-pub fn check_tracks<B: RowBound>(
+pub fn check_tracks<B: GapBound>(
     alloc: Global,
     bound: &B,
     pins: &Pins,
@@ -113,6 +114,7 @@ pub fn check_tracks<B: RowBound>(
     ensures lemmas { IfOk result (λ _. All (IsTrueOf pins.now limit kinds.now) lemmas.now) }
 {
     kinds.show_limits();
+    bound.show_holds();
     let first = start(alloc, kinds)?;
     let candidates = candidates(alloc, kinds)?;
     let all = touches(kinds, &first);

@@ -1,6 +1,6 @@
 // Whether a lemma is justified by those before it.
 ghost use Rattle.std.specs.Prelude.{◌≡◌, ◌↔◌, [], All, IfOk, IsTrue};
-ghost use Rattle.row_state.specs.Candidates.{AreCandidates};
+ghost use Rattle.row_state.specs.Candidates.{AreCandidates, IsNumbered};
 ghost use Rattle.row_state.specs.Start.{HasFingers, IsState, start_of};
 ghost use Rattle.track_ways.specs.States.{is_behind};
 ghost use Rattle.track_ways.specs.Tables.{marked};
@@ -14,14 +14,14 @@ use crate::steps::steps_fail;
 use crate::valid::is_valid;
 use crate::{NotedLemmas, state_nets, touches};
 use cell_num::{NoMemory, Pins};
-use row_cycles::needs_more;
-use row_state::{Candidates, Kinds, Numbered, RowBound, has_fingers, is_state};
+use row_needs::GapBound;
+use row_state::{Candidates, Kinds, Numbered, has_fingers, is_state};
 use row_trails::NETS;
 use std::alloc::Global;
 use track_ways::{TrackLemma, TrackWays, end_uncrowded, last_ways};
 
 /// What lemmas on tracks may rest on beside earlier ones: the cell, the number of tracks, all columns that may ever
-/// come next, the bound of a row, and how often the start state touches each net.
+/// come next, a bound on gaps, and how often the start state touches each net.
 #[derive(Clone, Copy)]
 pub struct TrackGrounds<'a, B> {
     pub kinds: &'a Kinds,
@@ -41,7 +41,7 @@ fn is_empty(ways: &TrackWays) -> bool
 }
 
 // Whether a finger is left, or no tracks go through the last line. None go through a crowded one.
-fn end_fails<B: RowBound>(
+fn end_fails<B: GapBound>(
     alloc: Global,
     grounds: &TrackGrounds<B>,
     lemma: &TrackLemma,
@@ -65,15 +65,17 @@ fn end_fails<B: RowBound>(
 }
 
 // Whether each next column leaves the lemma justified, and the end of a row does.
-fn branches<B: RowBound>(
+fn branches<B: GapBound>(
     alloc: Global,
     grounds: &TrackGrounds<B>,
     earlier: &NotedLemmas,
     lemma: &TrackLemma,
+    from: &Numbered,
     before: &[bool; NETS],
 ) -> Result<bool, NoMemory>
     requires candidates { AreCandidates grounds.now.kinds.now grounds.now.candidates.now }
-    requires valid { IsState grounds.now.kinds.now lemma.now.state }
+    requires numbered { IsNumbered grounds.now.kinds.now from.now }
+    requires state { from.now.state ≡ lemma.now.state }
     requires before { marked before.now ≡ is_behind grounds.now.kinds.now lemma.now.state }
     requires noted { AreNoted grounds.now.kinds.now earlier.now.lemmas.now earlier.now.places.now }
     ensures { IfOk result (λ fail. IsTrue fail ↔ BranchesListed (B.value grounds.now.bound.now) grounds.now.pins.now
@@ -82,14 +84,12 @@ fn branches<B: RowBound>(
     if !end_fails(alloc, grounds, lemma, before)? {
         return Ok(false);
     }
-    let state = lemma.state.copied()?;
-    let from = Numbered::new(state, grounds.kinds);
-    let fail = steps_fail(alloc, grounds, earlier, lemma, &from, before)?;
+    let fail = steps_fail(alloc, grounds, earlier, lemma, from, before)?;
     Ok(fail)
 }
 
 // Whether the lemma of a valid state is justified.
-fn is_justified_at<B: RowBound>(
+fn is_justified_at<B: GapBound>(
     alloc: Global,
     grounds: &TrackGrounds<B>,
     earlier: &NotedLemmas,
@@ -107,16 +107,18 @@ fn is_justified_at<B: RowBound>(
     if !is_valid(grounds.pins, kinds, grounds.all, &here, lemma) {
         return Ok(false);
     }
-    if needs_more(grounds.bound, kinds, &lemma.state, lemma.gaps) {
+    let state = lemma.state.copied()?;
+    let from = Numbered::new(state, kinds);
+    if grounds.bound.needs_more(kinds, &from, lemma.gaps) {
         return Ok(true);
     }
     let nets = state_nets(grounds.all, &here);
-    let fail = branches(alloc, grounds, earlier, lemma, &nets.before)?;
+    let fail = branches(alloc, grounds, earlier, lemma, &from, &nets.before)?;
     Ok(fail)
 }
 
 /// Whether the lemma is justified by the earlier ones.
-pub fn is_justified<B: RowBound>(
+pub fn is_justified<B: GapBound>(
     alloc: Global,
     grounds: &TrackGrounds<B>,
     earlier: &NotedLemmas,

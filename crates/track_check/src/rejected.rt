@@ -1,4 +1,7 @@
+ghost use Rattle.std.specs.Prelude.{◌≡◌};
+
 use bound_log::LogFault;
+use cell_num::NoMemory;
 use thiserror::Error;
 
 /// Why a text is rejected, in the order of looking.
@@ -15,4 +18,14 @@ pub enum TextRejected {
     NoStart,
     #[error("NoMemory")]
     NoMemory,
+}
+
+impl From<NoMemory> for TextRejected {
+    ghost use Rattle.track_check.specs.declared.rejected.TextRejected.TheVariants.{NoMemory};
+
+    ghost from_gives = { λ _ e. e ≡ NoMemory };
+
+    fn from(_: NoMemory) -> TextRejected {
+        TextRejected::NoMemory
+    }
 }

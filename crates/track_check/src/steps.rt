@@ -10,15 +10,16 @@ ghost use Rattle.track_check.specs.Steps.{StepFailsListed, WaysFail};
 
 use crate::{NotedLemmas, TrackGrounds, nets_ahead, touches};
 use cell_num::NoMemory;
-use row_cycles::{left_after, needs_more};
-use row_state::{Candidate, Numbered, RowBound};
+use row_cycles::left_after;
+use row_needs::GapBound;
+use row_state::{Candidate, Numbered};
 use row_trails::NETS;
 use std::alloc::Global;
 use track_ways::{TrackLemma, step_uncrowded, step_ways};
 
 // Whether all listed tracks after the column are refuted, with that many gaps left. They are where a lemma is about
 // the state and of any tracks, and where a line to the column is crowded.
-fn ways_fail<B: RowBound>(
+fn ways_fail<B: GapBound>(
     alloc: Global,
     grounds: &TrackGrounds<B>,
     earlier: &NotedLemmas,
@@ -39,7 +40,7 @@ fn ways_fail<B: RowBound>(
 {
     let kinds = grounds.kinds;
     let after = from.behind(alloc, kinds, next)?;
-    if needs_more(grounds.bound, kinds, &after.state, left) {
+    if grounds.bound.needs_more(kinds, &after, left) {
         return Ok(true);
     }
     if earlier.covers(&after, left, &[]) {
@@ -66,7 +67,7 @@ fn ways_fail<B: RowBound>(
 }
 
 // Whether the column leaves the lemma justified.
-fn step_fails<B: RowBound>(
+fn step_fails<B: GapBound>(
     alloc: Global,
     grounds: &TrackGrounds<B>,
     earlier: &NotedLemmas,
@@ -92,7 +93,7 @@ fn step_fails<B: RowBound>(
 
 // Whether each next column leaves the lemma justified.
 #[tactic(auto, using(row_cycles::proofs::Left::candidate_is))]
-pub(crate) fn steps_fail<B: RowBound>(
+pub(crate) fn steps_fail<B: GapBound>(
     alloc: Global,
     grounds: &TrackGrounds<B>,
     earlier: &NotedLemmas,

@@ -1,7 +1,7 @@
 -- What is known of states is found by their numbers.
 use Rattle.std.proofs.Common.{ℕ, ◌≡◌, ◌≢◌, ◌<◌, ◌≤◌, ◌⊎◌, ◌↔◌, ◌++◌, List, [], ◌∷◌, Option, None, Some, Bool, length, inl, inr, refl, sym, ap, subst, arith, Any, Contains, ◌∙◌}
 use Rattle.std.specs.Prelude.{IsTrue, false, ltb, true}
-use Rattle.std.proofs.lemmas.Bool.{cases_eq, cases_lt, lt-ltb, ltb-true}
+use Rattle.std.proofs.lemmas.Bool.{both_ways, cases_eq, cases_lt, lt-ltb, ltb-true}
 use Rattle.std.proofs.lemmas.List.Elements.{Contains-append_cases, Contains-push}
 use Rattle.cell_num.proofs.Lists.{contains_none, contains_one}
 use Rattle.cell_num.proofs.Pairs.{Some', any_append_left, any_at, some_from_any}
@@ -13,7 +13,6 @@ use Rattle.row_state.specs.declared.state.State.{State}
 use Rattle.row_state.specs.Code.{state_code}
 use Rattle.row_state.specs.Start.{IsState}
 use Rattle.row_state.proofs.Codes.{state_same}
-use Rattle.row_cycles.proofs.Loops.{not_both}
 use Rattle.track_ways.specs.declared.lemma.TrackLemma.{TrackLemma}
 use Rattle.track_ways.specs.Certificate.{CoversAll, NeedsMore}
 use Rattle.track_search.specs.declared.by_state.ByState.{ByState}
@@ -135,7 +134,7 @@ pub more_by_n : (value : Row → State → Kinds → ℕ) (k : Kinds) (s : State
 more_by_n value k s gaps p n of_p f is = (
   λ e. inr (ltb-true gaps (value N s k) (sym is ∙ e)),
   λ more. elim more [
-    | inl less ↦ absurd (not_both p (of_p ∙ lt-ltb gaps (value P s k) less) f)
+    | inl less ↦ absurd (both_ways p f (of_p ∙ lt-ltb gaps (value P s k) less))
     | inr less ↦ is ∙ lt-ltb gaps (value N s k) less
   ],
 )

@@ -1,6 +1,6 @@
 use Rattle.std.proofs.Common.{ap, subst, ◌∙◌, ◌++◌}
+use Rattle.std.proofs.lemmas.Bool.{both_ways}
 use Rattle.row_cycles.specs.Above.{HasCycle, above_end}
-use Rattle.row_cycles.proofs.Loops.{not_both}
 use Rattle.cycle_search.proofs.Needs.{adds_none, adds_on, adds_some, all_follow_self, cycle_all}
 use Rattle.cycle_search.proofs.ahead.ends.Goals as goal
 
@@ -18,8 +18,8 @@ returns-then-not-branch-clause-adds g c = adds_none c.args.asked.now.pairs c.arg
 
 pub returns-then-not-branch-clause-yes : goal.returns-then-not-branch-clause-yes
 returns-then-not-branch-clause-yes g c = λ e. record {
-  none = λ has. not_both c.has_fingers.result ((c.has_fingers.ensures c.args.task.now.kinds.now c.requires.numbered.valid).1 has) c.if-has_fingers.false;
-  free = λ cycle. not_both _ (c.in_ok-ends_in_cycle.ensures.1 cycle) c.if-not-branch.true;
+  none = λ has. both_ways c.has_fingers.result c.if-has_fingers.false ((c.has_fingers.ensures c.args.task.now.kinds.now c.requires.numbered.valid).1 has);
+  free = λ cycle. both_ways _ c.if-not-branch.true (c.in_ok-ends_in_cycle.ensures.1 cycle);
 }
 
 pub returns-then-branch-clause-no : goal.returns-then-branch-clause-no

@@ -9,7 +9,7 @@ pub returns-then-needs_more-clause-adds : goal.returns-then-needs_more-clause-ad
 returns-then-needs_more-clause-adds g c = adds_none c.args.asked.now.pairs c.args.need.now
 
 pub returns-then-needs_more-clause-none : goal.returns-then-needs_more-clause-none
-returns-then-needs_more-clause-none g c = λ lemmas. inl (subst (λ s. NeedsMore (g.B.RowBound.value c.args.task.now.bound.now) c.args.task.now.kinds.now s c.args.left) c.in_ok-state.ensures.state (c.needs_more.ensures.0 c.if-needs_more.true))
+returns-then-needs_more-clause-none g c = λ lemmas. inl (subst (λ s. NeedsMore (g.B.GapBound.value c.args.task.now.bound.now) c.args.task.now.kinds.now s c.args.left) c.in_ok-state.ensures.state (c.needs_more.ensures.0 c.if-needs_more.true))
 
 pub returns-then-branch-clause-none : goal.returns-then-branch-clause-none
 returns-then-branch-clause-none g c = λ lemmas. inr (inl (subst (λ ps. HasCycle (c.add_cycle.new.need ++ ps)) (c.as_slice.ensures ∙ c.in_ok-new.ensures.is) (c.in_ok-add_cycle.ensures.cycle c.if-branch.true)))

@@ -12,7 +12,7 @@ visit-requires g c = record {
   numbered = c.requires.numbered;
   asked = record { few = no_pairs c.args.task.now.kinds.now.nets c.in_ok-asked.asked.pairs c.in_ok-asked.ensures.pairs; sound = c.in_ok-asked.ensures.sound };
   gaps = omega arith;
-  kept = start_kept (g.B.RowBound.value c.args.task.now.bound.now) c.args.task.now.pins.now c.args.task.now.kinds.now c.args.task.now.gaps c.args.task.now.budget c.args.progress.now c.requires.lemmas c.requires.noted;
+  kept = start_kept (g.B.GapBound.value c.args.task.now.bound.now) c.args.task.now.pins.now c.args.task.now.kinds.now c.args.task.now.gaps c.args.task.now.budget c.args.progress.now c.requires.lemmas c.requires.noted;
 }
 
 pub returns-in-Some-clause-found : goal.returns-in-Some-clause-found
@@ -23,4 +23,4 @@ returns-in-Some-clause-found g c =
 pub returns-clause-none : goal.returns-clause-none
 returns-clause-none g c =
     let any : Any (Covers c.args.first.now.state c.args.task.now.gaps c.in_ok-asked.asked.pairs) c.visit.new.progress.lemmas = rw c.in_default.is at c.in-Ok.ensures.none in
-    certificate (g.B.RowBound.value c.args.task.now.bound.now) c.args.task.now.pins.now c.args.task.now.kinds.now c.args.first.now.state c.args.task.now.gaps c.in_ok-asked.asked.pairs c.visit.new.progress.lemmas c.requires.state c.in_ok-asked.ensures.pairs c.in-Ok.ensures.kept.kept.justified any
+    certificate (g.B.GapBound.value c.args.task.now.bound.now) c.args.task.now.pins.now c.args.task.now.kinds.now c.args.first.now.state c.args.task.now.gaps c.in_ok-asked.asked.pairs c.visit.new.progress.lemmas c.requires.state c.in_ok-asked.ensures.pairs c.in-Ok.ensures.kept.kept.justified any

@@ -32,7 +32,7 @@ loop-next-init g t c = (
   grown_none c.args.progress.now,
   first_needed c.args.asked.now.pairs c.new-need.result c.ends.new.need c.new-need.ensures c.in_ok-ends.ensures.adds,
   record {
-    each = All-nil (StepFails (g.B.RowBound.value c.args.task.now.bound.now) c.args.task.now.pins.now c.args.task.now.kinds.now c.args.progress.now.lemmas c.args.at.now.state c.args.allowed c.ends.new.need);
+    each = All-nil (StepFails (g.B.GapBound.value c.args.task.now.bound.now) c.args.task.now.pins.now c.args.task.now.kinds.now c.args.progress.now.lemmas c.args.at.now.state c.args.allowed c.ends.new.need);
     ends = c.in_ok-ends.ensures.no c.if-branch.false;
   },
 )
@@ -44,13 +44,13 @@ state_ahead-requires-clause-next g t c = All-get_or (IsCandidate c.args.task.now
 pub loop-next-preserved-in_default : goal.loop-next-preserved-in_default
 unfolding blank
 loop-next-preserved-in_default g t c =
-    let fails : StepIsRefuted (g.B.RowBound.value c.args.task.now.bound.now) c.args.task.now.pins.now c.args.task.now.kinds.now c.noted-known.result.lemmas.now (lemma_at c.args.at.now.state c.args.allowed c.state_ahead.new.need) (get_or c.as_slice-next-items.result.now c.loop-next.next-index blank).step = rw c.in_default.is at c.in_ok-ahead.ensures.none in (
+    let fails : StepIsRefuted (g.B.GapBound.value c.args.task.now.bound.now) c.args.task.now.pins.now c.args.task.now.kinds.now c.noted-known.result.lemmas.now (lemma_at c.args.at.now.state c.args.allowed c.state_ahead.new.need) (get_or c.as_slice-next-items.result.now c.loop-next.next-index blank).step = rw c.in_default.is at c.in_ok-ahead.ensures.none in (
       c.loop-next.invariant.0,
       c.loop-next.invariant.1,
       adds_all c.args.asked.now.pairs c.loop-next.need c.state_ahead.new.need c.loop-next.invariant.2 c.in_ok-ahead.ensures.adds,
-      fail_push (g.B.RowBound.value c.args.task.now.bound.now) c.args.task.now.pins.now c.args.task.now.kinds.now c.loop-next.progress.lemmas c.args.at.now.state c.args.allowed c.state_ahead.new.need c.as_slice-next-items.result.now c.loop-next.next-index blank c.loop-next-test.true
-          (fail_still (g.B.RowBound.value c.args.task.now.bound.now) c.args.task.now.pins.now c.args.task.now.kinds.now c.loop-next.progress.lemmas c.loop-next.progress.lemmas [] c.args.at.now.state c.args.allowed c.args.asked.now.pairs c.loop-next.need c.state_ahead.new.need (take c.loop-next.next-index c.as_slice-next-items.result.now) (sym (append-nil c.loop-next.progress.lemmas)) c.in_ok-ahead.ensures.adds c.loop-next.invariant.3)
-          (subst (λ ls. StepIsRefuted (g.B.RowBound.value c.args.task.now.bound.now) c.args.task.now.pins.now c.args.task.now.kinds.now ls (lemma_at c.args.at.now.state c.args.allowed c.state_ahead.new.need) (get_or c.as_slice-next-items.result.now c.loop-next.next-index blank).step) c.noted-known.ensures.lemmas fails),
+      fail_push (g.B.GapBound.value c.args.task.now.bound.now) c.args.task.now.pins.now c.args.task.now.kinds.now c.loop-next.progress.lemmas c.args.at.now.state c.args.allowed c.state_ahead.new.need c.as_slice-next-items.result.now c.loop-next.next-index blank c.loop-next-test.true
+          (fail_still (g.B.GapBound.value c.args.task.now.bound.now) c.args.task.now.pins.now c.args.task.now.kinds.now c.loop-next.progress.lemmas c.loop-next.progress.lemmas [] c.args.at.now.state c.args.allowed c.args.asked.now.pairs c.loop-next.need c.state_ahead.new.need (take c.loop-next.next-index c.as_slice-next-items.result.now) (sym (append-nil c.loop-next.progress.lemmas)) c.in_ok-ahead.ensures.adds c.loop-next.invariant.3)
+          (subst (λ ls. StepIsRefuted (g.B.GapBound.value c.args.task.now.bound.now) c.args.task.now.pins.now c.args.task.now.kinds.now ls (lemma_at c.args.at.now.state c.args.allowed c.state_ahead.new.need) (get_or c.as_slice-next-items.result.now c.loop-next.next-index blank).step) c.noted-known.ensures.lemmas fails),
     )
 
 pub visit-requires : goal.visit-requires
@@ -62,7 +62,7 @@ visit-requires g t c κs within =
     let numbered : IsNumbered c.args.task.now.kinds.now c.in-Some.ahead.state = a.is.numbered in
     let asked : IsAsked c.args.task.now.kinds.now.nets c.in-Some.ahead.asked = a.is.asked in
     let gaps : c.in-Some.ahead.left ≤ c.args.task.now.gaps = omega (arith, a.left, c.requires.gaps) in
-    let kept : IsKept (g.B.RowBound.value c.args.task.now.bound.now) c.args.task.now.pins.now c.args.task.now.kinds.now c.args.task.now.gaps c.args.task.now.budget c.loop-next.progress = c.loop-next.invariant.0 in
+    let kept : IsKept (g.B.GapBound.value c.args.task.now.bound.now) c.args.task.now.pins.now c.args.task.now.kinds.now c.args.task.now.gaps c.args.task.now.budget c.loop-next.progress = c.loop-next.invariant.0 in
     search rules
 
 pub returns-in-Some-tried-clause-grown : goal.returns-in-Some-tried-clause-grown
@@ -73,8 +73,8 @@ unfolding blank
 returns-in-Some-tried-clause-first g t c =
     let a : IsAhead c.args.task.now.pins.now c.args.task.now.kinds.now c.args.at.now.state c.args.asked.now.pairs c.args.allowed (get_or c.as_slice-next-items.result.now c.loop-next.next-index blank).step c.in-Some.ahead = rw c.in-Some.is at c.in_ok-ahead.ensures.some in
     let first : IsFirstFree c.args.task.now.pins.now c.args.task.now.kinds.now c.in-Some.ahead.state.state c.in-Some.ahead.asked.pairs c.in-Some.ahead.left (reverse c.in-Some-tried.rest) = rw c.in-Some-tried.is at c.in-Ok.ensures.first in
-    first_through (g.B.RowBound.value c.args.task.now.bound.now) c.args.task.now.pins.now c.args.task.now.kinds.now c.loop-next.progress.lemmas c.args.at.now.state c.args.asked.now.pairs c.args.allowed c.in-Some.ahead c.as_slice-next-items.result.now c.loop-next.next-index blank c.in-Some-tried.rest c.push.new.self c.show_limits.ensures (λ row s valid. g.met.B.RowBound.holds c.args.task.now.bound.now row s c.args.task.now.kinds.now c.show_limits.ensures valid) (c.cycles_by_lemmas.ensures.lemmas c.args.task.now.pins.now c.args.task.now.kinds.now c.loop-next.progress.lemmas c.show_limits.ensures c.loop-next.invariant.0.kept.justified) c.requires.numbered.valid (subst (AreCandidates c.args.task.now.kinds.now) (sym c.as_slice-next-items.ensures) c.requires.candidates) c.loop-next-test.true
-    (steps_follow (g.B.RowBound.value c.args.task.now.bound.now) c.args.task.now.pins.now c.args.task.now.kinds.now c.loop-next.progress.lemmas c.args.at.now.state c.args.allowed c.loop-next.need c.args.asked.now.pairs (take c.loop-next.next-index c.as_slice-next-items.result.now) c.loop-next.invariant.2 c.loop-next.invariant.3.each) a first c.in_ok-push.ensures.ok
+    first_through (g.B.GapBound.value c.args.task.now.bound.now) c.args.task.now.pins.now c.args.task.now.kinds.now c.loop-next.progress.lemmas c.args.at.now.state c.args.asked.now.pairs c.args.allowed c.in-Some.ahead c.as_slice-next-items.result.now c.loop-next.next-index blank c.in-Some-tried.rest c.push.new.self c.show_limits.ensures (λ row s valid. c.show_holds.ensures row s c.args.task.now.kinds.now c.show_limits.ensures valid) (c.cycles_by_lemmas.ensures.lemmas c.args.task.now.pins.now c.args.task.now.kinds.now c.loop-next.progress.lemmas c.show_limits.ensures c.loop-next.invariant.0.kept.justified) c.requires.numbered.valid (subst (AreCandidates c.args.task.now.kinds.now) (sym c.as_slice-next-items.ensures) c.requires.candidates) c.loop-next-test.true
+    (steps_follow (g.B.GapBound.value c.args.task.now.bound.now) c.args.task.now.pins.now c.args.task.now.kinds.now c.loop-next.progress.lemmas c.args.at.now.state c.args.allowed c.loop-next.need c.args.asked.now.pairs (take c.loop-next.next-index c.as_slice-next-items.result.now) c.loop-next.invariant.2 c.loop-next.invariant.3.each) a first c.in_ok-push.ensures.ok
 
 pub add_failed-requires : goal.add_failed-requires
 unfolding blank
@@ -96,9 +96,9 @@ loop-next-preserved g t c =
       c.in-Ok.ensures.kept,
       grown_on c.args.progress.now c.loop-next.progress c.visit.new.progress c.loop-next.invariant.1 c.in-Ok.ensures.grown,
       adds_all c.args.asked.now.pairs c.loop-next.need c.add_failed.new.need c.loop-next.invariant.2 adds,
-      fail_push (g.B.RowBound.value c.args.task.now.bound.now) c.args.task.now.pins.now c.args.task.now.kinds.now c.visit.new.progress.lemmas c.args.at.now.state c.args.allowed c.add_failed.new.need c.as_slice-next-items.result.now c.loop-next.next-index blank c.loop-next-test.true
-          (fail_still (g.B.RowBound.value c.args.task.now.bound.now) c.args.task.now.pins.now c.args.task.now.kinds.now c.loop-next.progress.lemmas c.visit.new.progress.lemmas c.in-Ok.ensures.grown.more c.args.at.now.state c.args.allowed c.args.asked.now.pairs c.loop-next.need c.add_failed.new.need (take c.loop-next.next-index c.as_slice-next-items.result.now) c.in-Ok.ensures.grown.is adds c.loop-next.invariant.3)
-          (ahead_fails (g.B.RowBound.value c.args.task.now.bound.now) c.args.task.now.pins.now c.args.task.now.kinds.now c.visit.new.progress.lemmas c.args.at.now.state c.args.allowed c.args.asked.now.pairs c.add_failed.new.need (get_or c.as_slice-next-items.result.now c.loop-next.next-index blank).step c.in-Some.ahead a any),
+      fail_push (g.B.GapBound.value c.args.task.now.bound.now) c.args.task.now.pins.now c.args.task.now.kinds.now c.visit.new.progress.lemmas c.args.at.now.state c.args.allowed c.add_failed.new.need c.as_slice-next-items.result.now c.loop-next.next-index blank c.loop-next-test.true
+          (fail_still (g.B.GapBound.value c.args.task.now.bound.now) c.args.task.now.pins.now c.args.task.now.kinds.now c.loop-next.progress.lemmas c.visit.new.progress.lemmas c.in-Ok.ensures.grown.more c.args.at.now.state c.args.allowed c.args.asked.now.pairs c.loop-next.need c.add_failed.new.need (take c.loop-next.next-index c.as_slice-next-items.result.now) c.in-Ok.ensures.grown.is adds c.loop-next.invariant.3)
+          (ahead_fails (g.B.GapBound.value c.args.task.now.bound.now) c.args.task.now.pins.now c.args.task.now.kinds.now c.visit.new.progress.lemmas c.args.at.now.state c.args.allowed c.args.asked.now.pairs c.add_failed.new.need (get_or c.as_slice-next-items.result.now c.loop-next.next-index blank).step c.in-Some.ahead a any),
     )
 
 pub lemma_of-requires-clause-nets : goal.lemma_of-requires-clause-nets
@@ -109,7 +109,7 @@ keep-requires-clause-state g t c = ap (λ (l : CycleLemma). l.state) c.in_ok-lem
 
 pub keep-requires-clause-justified : goal.keep-requires-clause-justified
 keep-requires-clause-justified g t c =
-    need_justified (g.B.RowBound.value c.args.task.now.bound.now) c.args.task.now.pins.now c.args.task.now.kinds.now c.loop-next.progress.lemmas c.args.at.now.state c.args.allowed c.loop-next.need c.as_slice-next-items.result.now c.loop-next.next-index c.in_ok-lemma.lemma (subst (AreCandidates c.args.task.now.kinds.now) (sym c.as_slice-next-items.ensures) c.requires.candidates) c.requires.numbered.valid
+    need_justified (g.B.GapBound.value c.args.task.now.bound.now) c.args.task.now.pins.now c.args.task.now.kinds.now c.loop-next.progress.lemmas c.args.at.now.state c.args.allowed c.loop-next.need c.as_slice-next-items.result.now c.loop-next.next-index c.in_ok-lemma.lemma (subst (AreCandidates c.args.task.now.kinds.now) (sym c.as_slice-next-items.ensures) c.requires.candidates) c.requires.numbered.valid
     (follow_nets c.args.task.now.kinds.now.nets c.args.asked.now.pairs c.loop-next.need c.requires.asked.few c.loop-next.invariant.2) c.loop-next-test.false c.loop-next.invariant.3 c.in_ok-lemma.ensures.is
     (subst (λ ps. AreSame ps c.in_ok-lemma.lemma.above) c.as_slice.ensures c.in_ok-lemma.ensures.same) c.in_ok-lemma.ensures.within.nets
 

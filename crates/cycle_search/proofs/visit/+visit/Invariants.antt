@@ -10,7 +10,7 @@ decreases-visit g l = columns_left l.task.now.kinds.now l.at.now.state
 
 abbrev pub invariant-loop-next : goal.invariant-loop-next
 invariant-loop-next g l =
-    IsKept (g.B.RowBound.value l.task.bound.now) l.task.pins.now l.task.kinds.now l.task.gaps l.task.budget l.progress
+    IsKept (g.B.GapBound.value l.task.bound.now) l.task.pins.now l.task.kinds.now l.task.gaps l.task.budget l.progress
     × IsGrown l.fn.progress l.progress
     × All (Follows l.asked.pairs) l.need
-    × Fail (g.B.RowBound.value l.task.bound.now) l.task.pins.now l.task.kinds.now l.progress.lemmas l.at.state l.allowed l.need (take l.next-index l.next-items)
+    × Fail (g.B.GapBound.value l.task.bound.now) l.task.pins.now l.task.kinds.now l.progress.lemmas l.at.state l.allowed l.need (take l.next-index l.next-items)

@@ -1,6 +1,7 @@
 use Rattle.std.proofs.Common.{◌≡◌, ◌++◌, ◌∙◌, ap, subst, sym}
+use Rattle.std.proofs.lemmas.Bool.{both_ways}
 use Rattle.row_cycles.specs.Above.{HasCycle, above_end}
-use Rattle.row_cycles.proofs.Loops.{not_both, yes_from}
+use Rattle.row_cycles.proofs.Loops.{yes_from}
 use Rattle.row_cycles.proofs.Nets.{both_nets, end_nets}
 use Rattle.row_cycles.proofs.justified.end_is_refuted.Goals as goal
 
@@ -16,5 +17,5 @@ pub returns : goal.returns
 returns c =
     let grown : c.as_slice.result.now ≡ c.args.lemma.now.above ++ above_end c.args.pins.now c.args.lemma.now.state = c.as_slice.ensures ∙ c.in_ok-add_end.ensures ∙ ap (λ xs. xs ++ above_end c.args.pins.now c.args.lemma.now.state) c.in_ok-above.ensures in (
       λ e none. subst HasCycle grown (c.has_cycle.ensures.0 e),
-      λ h. c.has_cycle.ensures.1 (subst HasCycle (sym grown) (h (λ has. not_both c.has_fingers.result ((c.has_fingers.ensures c.args.kinds.now c.requires.valid).1 has) c.if-has_fingers.false))),
+      λ h. c.has_cycle.ensures.1 (subst HasCycle (sym grown) (h (λ has. both_ways c.has_fingers.result c.if-has_fingers.false ((c.has_fingers.ensures c.args.kinds.now c.requires.valid).1 has)))),
     )

@@ -1,11 +1,12 @@
 use Rattle.std.proofs.Common.{◌≡◌, ◌++◌, ◌∙◌, ap, inl, inr, subst, sym}
+use Rattle.std.proofs.lemmas.Bool.{both_ways}
 use Rattle.row_state.specs.Start.{IsState}
 use Rattle.row_state.specs.Steps.{state_after}
 use Rattle.track_ways.specs.Certificate.{NeedsMore}
 use Rattle.track_ways.specs.Paths.{lines_to}
 use Rattle.row_cycles.specs.Above.{HasCycle, above_of, above_step}
 use Rattle.row_cycles.specs.Noted.{state_of}
-use Rattle.row_cycles.proofs.Loops.{not_both, yes_from}
+use Rattle.row_cycles.proofs.Loops.{yes_from}
 use Rattle.row_cycles.proofs.Nets.{both_nets, step_nets}
 use Rattle.row_cycles.proofs.Noted.{noted_here}
 use Rattle.row_cycles.proofs.Refuted.{first_part, first_within, left_decides}
@@ -28,7 +29,7 @@ returns-then-has_cycle_from g c =
 pub returns-then-needs_more : goal.returns-then-needs_more
 returns-then-needs_more g c =
     let after : c.in_ok-after.after.state ≡ state_after c.args.grounds.now.kinds.now c.args.lemma.now.state c.args.next.now.step = c.in_ok-after.ensures.state ∙ ap (λ s. state_after c.args.grounds.now.kinds.now s c.args.next.now.step) c.requires.state in
-    yes_from (inl (subst (λ s. NeedsMore (g.B.RowBound.value c.args.grounds.now.bound.now) c.args.grounds.now.kinds.now s c.args.left) after (c.needs_more.ensures.0 c.if-needs_more.true)))
+    yes_from (inl (subst (λ s. NeedsMore (g.B.GapBound.value c.args.grounds.now.bound.now) c.args.grounds.now.kinds.now s c.args.left) after (c.needs_more.ensures.0 c.if-needs_more.true)))
 
 pub covers-requires : goal.covers-requires
 covers-requires g c =
@@ -42,7 +43,7 @@ pub returns : goal.returns
 returns g c =
     let grown : c.add_step.new.above ≡ c.args.lemma.now.above ++ above_step c.args.grounds.now.pins.now c.args.grounds.now.kinds.now c.args.lemma.now.state c.args.next.now.step = c.in_ok-add_step.ensures ∙ ap (λ xs. xs ++ above_of c.args.grounds.now.pins.now (lines_to c.args.lemma.now.state c.args.next.now.column)) c.in_ok-above.ensures ∙ ap (λ column. c.args.lemma.now.above ++ above_of c.args.grounds.now.pins.now (lines_to c.args.lemma.now.state column)) c.requires.next.column in
     let after : c.in_ok-after.after.state ≡ state_after c.args.grounds.now.kinds.now c.args.lemma.now.state c.args.next.now.step = c.in_ok-after.ensures.state ∙ ap (λ s. state_after c.args.grounds.now.kinds.now s c.args.next.now.step) c.requires.state in
-    left_decides (g.B.RowBound.value c.args.grounds.now.bound.now) c.args.grounds.now.pins.now c.args.grounds.now.kinds.now c.args.earlier.now.lemmas.now c.args.lemma.now c.args.next.now.step c.args.left c.in_ok-after.after.state c.as_slice-2.result.now c.covers.result after (c.as_slice-2.ensures ∙ grown)
-    (λ cycle. not_both c.has_cycle_from.result (c.has_cycle_from.ensures.1 (subst HasCycle (c.as_slice-2.ensures ∙ sym c.as_slice.ensures) cycle)) c.if-has_cycle_from.false)
-    (λ more. not_both c.needs_more.result (c.needs_more.ensures.1 more) c.if-needs_more.false)
+    left_decides (g.B.GapBound.value c.args.grounds.now.bound.now) c.args.grounds.now.pins.now c.args.grounds.now.kinds.now c.args.earlier.now.lemmas.now c.args.lemma.now c.args.next.now.step c.args.left c.in_ok-after.after.state c.as_slice-2.result.now c.covers.result after (c.as_slice-2.ensures ∙ grown)
+    (λ cycle. both_ways c.has_cycle_from.result c.if-has_cycle_from.false (c.has_cycle_from.ensures.1 (subst HasCycle (c.as_slice-2.ensures ∙ sym c.as_slice.ensures) cycle)))
+    (λ more. both_ways c.needs_more.result c.if-needs_more.false (c.needs_more.ensures.1 more))
     c.covers.ensures

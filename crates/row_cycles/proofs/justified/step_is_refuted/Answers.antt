@@ -31,7 +31,7 @@ pub returns : goal.returns
 returns g c =
     one_decides c.args.grounds.now.kinds.now c.args.lemma.now.state c.args.lemma.now.gaps c.args.next.now.step
     c.in-Some.left
-    (LeftIsRefuted (g.B.RowBound.value c.args.grounds.now.bound.now) c.args.grounds.now.pins.now
+    (LeftIsRefuted (g.B.GapBound.value c.args.grounds.now.bound.now) c.args.grounds.now.pins.now
     c.args.grounds.now.kinds.now c.args.earlier.now.lemmas.now c.args.lemma.now c.args.next.now.step)
     c.in_ok-refuted.refuted
     (subst (λ s. IsPossible c.args.grounds.now.kinds.now s c.args.next.now.step) c.requires.state

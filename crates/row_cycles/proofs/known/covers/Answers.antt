@@ -1,13 +1,14 @@
 use Rattle.std.proofs.Common.{All, arith, subst, sym}
+use Rattle.std.proofs.lemmas.Bool.{both_ways}
 use Rattle.row_cycles.specs.Above.{Follows}
-use Rattle.row_cycles.proofs.Loops.{no_from, not_both}
+use Rattle.row_cycles.proofs.Loops.{no_from}
 use Rattle.row_cycles.proofs.known.covers.Goals as goal
 
 pub returns-then-lemma-gaps : goal.returns-then-lemma-gaps
 returns-then-lemma-gaps c = no_from (λ h. absurd (omega (arith, h.enough, c.if-lemma-gaps.true)))
 
 pub returns-then-not-is_same : goal.returns-then-not-is_same
-returns-then-not-is_same c = no_from (λ h. not_both c.is_same.result (c.is_same.ensures.1 h.state) c.if-not-is_same.true)
+returns-then-not-is_same c = no_from (λ h. both_ways c.is_same.result c.if-not-is_same.true (c.is_same.ensures.1 h.state))
 
 pub returns : goal.returns
 returns c = (

@@ -7,10 +7,11 @@ use Rattle.row_state.specs.Candidates.{AreCandidates, IsCandidate, IsNumbered}
 use Rattle.row_state.specs.Start.{columns_left}
 use Rattle.row_state.specs.Steps.{IsPossible, state_after}
 use Rattle.row_state.proofs.Calls.{fewer_after}
-use Rattle.row_needs.specs.Best.{AreLedTo, HasNext}
+use Rattle.row_needs.specs.Best.{HasNext}
 use Rattle.row_needs.specs.Many.{IsLedTo}
 use Rattle.row_needs.specs.Need.{IsNeed}
 use Rattle.row_needs.specs.Rest.{AreRests, HasRest, IsClosed, ends_before}
+use Rattle.row_needs.specs.Table.{AreLedTo}
 use Rattle.row_needs.proofs.Led.{led_more, led_on, many_rests}
 use Rattle.row_needs.proofs.Full.{below_add, below_on}
 use Rattle.row_needs.proofs.Rests.{best_more, best_past, need_is, not_both}

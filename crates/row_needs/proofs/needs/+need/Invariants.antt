@@ -1,8 +1,9 @@
 use Rattle.std.proofs.Common.{All, take, ◌≤◌}
 use Rattle.std.specs.HashMap.{hash_map_len}
 use Rattle.row_state.specs.Start.{columns_left}
-use Rattle.row_needs.specs.Best.{AddsBelow, AreLedTo, HasNext, IsBest, IsGrown}
+use Rattle.row_needs.specs.Best.{AddsBelow, HasNext, IsBest, IsGrown}
 use Rattle.row_needs.specs.Rest.{AreRests, IsClosed}
+use Rattle.row_needs.specs.Table.{AreLedTo}
 use Rattle.row_needs.proofs.needs.+need.Given as goal
 
 abbrev pub decreases-need : goal.decreases-need

@@ -6,5 +6,5 @@ use Rattle.track_check.proofs.check.is_justified_at.Goals as goal
 
 pub returns : goal.returns
 returns g c = λ d valid.
-    subst (λ x. IsTrue c.in_ok-justified.justified ↔ IsJustified (g.B.RowBound.value c.args.grounds.now.bound.now) c.args.grounds.now.pins.now c.args.grounds.now.limit c.args.grounds.now.kinds.now (take c.args.at c.args.lemmas.now) x) (c.index-lemmas-at.is ∙ get_or_default c.args.lemmas.now c.args.at c.index-lemmas-at.result d c.requires.within)
+    subst (λ x. IsTrue c.in_ok-justified.justified ↔ IsJustified (g.B.GapBound.value c.args.grounds.now.bound.now) c.args.grounds.now.pins.now c.args.grounds.now.limit c.args.grounds.now.kinds.now (take c.args.at c.args.lemmas.now) x) (c.index-lemmas-at.is ∙ get_or_default c.args.lemmas.now c.args.at c.index-lemmas-at.result d c.requires.within)
     (c.in_ok-justified.ensures.justified valid)

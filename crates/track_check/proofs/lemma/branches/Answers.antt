@@ -1,16 +1,14 @@
-use Rattle.std.proofs.Common.{subst, sym, ◌∙◌}
+use Rattle.std.proofs.Common.{subst}
+use Rattle.std.proofs.lemmas.Bool.{both_ways}
 use Rattle.row_state.specs.Start.{IsState}
-use Rattle.row_cycles.proofs.Loops.{no_from, not_both}
+use Rattle.row_cycles.proofs.Loops.{no_from}
 use Rattle.track_check.proofs.lemma.branches.Goals as goal
 
 pub returns-then-not-branch : goal.returns-then-not-branch
-returns-then-not-branch g c = no_from (λ b. not_both _ (c.in_ok-end_fails.ensures.1 b.ends) c.if-not-branch.true)
+returns-then-not-branch g c = no_from (λ b. both_ways _ c.if-not-branch.true (c.in_ok-end_fails.ensures.1 b.ends))
 
-pub new-from-requires : goal.new-from-requires
-new-from-requires g c = record { state = subst (IsState c.args.grounds.now.kinds.now) (sym c.in_ok-state.ensures) c.requires.valid }
-
-pub steps_fail-requires-clause-state : goal.steps_fail-requires-clause-state
-steps_fail-requires-clause-state g c = c.new-from.ensures.state ∙ c.in_ok-state.ensures
+pub end_fails-requires-clause-valid : goal.end_fails-requires-clause-valid
+end_fails-requires-clause-valid g c = subst (IsState c.args.grounds.now.kinds.now) c.requires.state c.requires.numbered.valid
 
 pub returns : goal.returns
 returns g c = (

@@ -1,5 +1,6 @@
 use Rattle.std.proofs.Common.{sym, ◌∙◌}
-use Rattle.row_cycles.proofs.Loops.{not_both, yes_from}
+use Rattle.std.proofs.lemmas.Bool.{both_ways}
+use Rattle.row_cycles.proofs.Loops.{yes_from}
 use Rattle.track_check.proofs.lemma.end_fails.Goals as goal
 
 pub returns-then-has_fingers : goal.returns-then-has_fingers
@@ -11,5 +12,5 @@ returns-then-not-branch g c = yes_from (λ none. c.in_ok-end_uncrowded.ensures.c
 pub returns : goal.returns
 returns g c = (
   λ e none. sym c.in_ok-ways.ensures ∙ c.is_empty.ensures.0 e,
-  λ h. c.is_empty.ensures.1 (c.in_ok-ways.ensures ∙ h (λ has. not_both c.has_fingers.result ((c.has_fingers.ensures c.args.grounds.now.kinds.now c.requires.valid).1 has) c.if-has_fingers.false)),
+  λ h. c.is_empty.ensures.1 (c.in_ok-ways.ensures ∙ h (λ has. both_ways c.has_fingers.result c.if-has_fingers.false ((c.has_fingers.ensures c.args.grounds.now.kinds.now c.requires.valid).1 has))),
 )

@@ -1,17 +1,18 @@
 use Rattle.std.proofs.Common.{◌↔◌}
+use Rattle.std.proofs.lemmas.Bool.{both_ways}
 use Rattle.track_ways.specs.Certificate.{IsJustified}
 use Rattle.track_ways.specs.Checked.{IsJustifiedListed}
 use Rattle.track_ways.proofs.Checked.{justified_decided}
-use Rattle.row_cycles.proofs.Loops.{no_from, not_both}
+use Rattle.row_cycles.proofs.Loops.{no_from}
 use Rattle.track_check.proofs.lemma.is_justified.Goals as goal
 
 pub returns-then-not-is_state-clause-listed : goal.returns-then-not-is_state-clause-listed
-returns-then-not-is_state-clause-listed g c = no_from (λ j. not_both c.is_state.result (c.is_state.ensures.1 j.valid.state) c.if-not-is_state.true)
+returns-then-not-is_state-clause-listed g c = no_from (λ j. both_ways c.is_state.result c.if-not-is_state.true (c.is_state.ensures.1 j.valid.state))
 
 pub returns-then-not-is_state-clause-justified : goal.returns-then-not-is_state-clause-justified
-returns-then-not-is_state-clause-justified g c = λ valid. no_from (λ j. not_both c.is_state.result (c.is_state.ensures.1 j.valid.state) c.if-not-is_state.true)
+returns-then-not-is_state-clause-justified g c = λ valid. no_from (λ j. both_ways c.is_state.result c.if-not-is_state.true (c.is_state.ensures.1 j.valid.state))
 
 pub returns-clause-justified : goal.returns-clause-justified
 returns-clause-justified g c = λ valid.
-    let d : IsJustified (g.B.RowBound.value c.args.grounds.now.bound.now) c.args.grounds.now.pins.now c.args.grounds.now.limit c.args.grounds.now.kinds.now c.args.earlier.now.lemmas.now c.args.lemma.now ↔ IsJustifiedListed (g.B.RowBound.value c.args.grounds.now.bound.now) c.args.grounds.now.pins.now c.args.grounds.now.limit c.args.grounds.now.kinds.now c.args.earlier.now.lemmas.now c.args.lemma.now = justified_decided (g.B.RowBound.value c.args.grounds.now.bound.now) c.args.grounds.now.pins.now c.args.grounds.now.limit c.args.grounds.now.kinds.now c.args.earlier.now.lemmas.now c.args.lemma.now c.show_limits.ensures valid in
+    let d : IsJustified (g.B.GapBound.value c.args.grounds.now.bound.now) c.args.grounds.now.pins.now c.args.grounds.now.limit c.args.grounds.now.kinds.now c.args.earlier.now.lemmas.now c.args.lemma.now ↔ IsJustifiedListed (g.B.GapBound.value c.args.grounds.now.bound.now) c.args.grounds.now.pins.now c.args.grounds.now.limit c.args.grounds.now.kinds.now c.args.earlier.now.lemmas.now c.args.lemma.now = justified_decided (g.B.GapBound.value c.args.grounds.now.bound.now) c.args.grounds.now.pins.now c.args.grounds.now.limit c.args.grounds.now.kinds.now c.args.earlier.now.lemmas.now c.args.lemma.now c.show_limits.ensures valid in
     ((λ e. d.1 (c.in_ok-justified.ensures.0 e)), (λ j. c.in_ok-justified.ensures.1 (d.0 j)))

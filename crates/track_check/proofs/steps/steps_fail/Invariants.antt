@@ -4,4 +4,4 @@ use Rattle.track_check.specs.Steps.{StepFailsListed}
 use Rattle.track_check.proofs.steps.steps_fail.Given as goal
 
 abbrev pub invariant-loop-next : goal.invariant-loop-next
-invariant-loop-next g l = All (λ (c : Candidate). StepFailsListed (g.B.RowBound.value l.grounds.bound.now) l.grounds.pins.now l.grounds.limit l.grounds.kinds.now l.earlier.lemmas.now l.lemma c.step) (take l.next-index l.next-items)
+invariant-loop-next g l = All (λ (c : Candidate). StepFailsListed (g.B.GapBound.value l.grounds.bound.now) l.grounds.pins.now l.grounds.limit l.grounds.kinds.now l.earlier.lemmas.now l.lemma c.step) (take l.next-index l.next-items)

@@ -1,6 +1,7 @@
 use Rattle.std.proofs.Common.{rules, ◌≡◌, ◌≤◌, ◌<◌, ◌+◌, ◌*◌, ◌++◌, [], ◌∷◌, Any, None, Option, Some, ap, arith, false, get_or, inr, map, refl, subst, sym, take, true, ◌∙◌}
 use Rattle.std.specs.Prelude.{IfNone, IfSome, is_some}
 use Rattle.std.proofs.lemmas.List.Elements.{All-nil}
+use Rattle.std.proofs.lemmas.Bool.{both_ways}
 use Rattle.row_state.specs.declared.candidate.Candidate.{Candidate}
 use Rattle.row_state.specs.declared.state.State.{State}
 use Rattle.row_state.specs.Candidates.{IsCandidate, IsNumbered}
@@ -8,7 +9,6 @@ use Rattle.row_state.specs.Start.{columns_left}
 use Rattle.lemma_check.specs.Noted.{AreNoted}
 use Rattle.track_ways.specs.Certificate.{CoversAll}
 use Rattle.track_ways.specs.Paths.{EndsFit}
-use Rattle.row_cycles.proofs.Loops.{not_both}
 use Rattle.track_search.specs.Kept.{AreKept}
 use Rattle.track_search.specs.Uncrowded.{HasUncrowded}
 use Rattle.track_search.specs.Visit.{ColumnFails, IsAhead, IsKept, kept_at}
@@ -89,7 +89,7 @@ pub closes-returns-in-Ok-keep_one-clause-grown : goal.closes-returns-in-Ok-keep_
 closes-returns-in-Ok-keep_one-clause-grown g t c =
     kept_grown (g.B.RowBound.value c.args.task.now.bound.now) c.args.task.now.pins.now c.args.task.now.limit c.args.task.now.kinds.now c.args.task.now.gaps c.args.task.now.budget c.args.progress.now c.loop-next.progress c.keep_one.new.self c.args.at.now.state c.args.allowed ([] ∷ []) c.loop-next.invariant.0
     (kept_sound (g.B.RowBound.value c.args.task.now.bound.now) c.args.task.now.pins.now c.args.task.now.limit c.args.task.now.kinds.now c.args.task.now.gaps c.args.task.now.budget c.args.progress.now c.loop-next.progress c.args.at.now.state c.args.allowed ([] ∷ []) c.args.task.now.candidates.now c.loop-next.next-index c.show_limits.ensures c.requires.candidates c.requires.numbered.valid c.requires.ends (none_of_open c.args.task.now.pins.now c.args.task.now.kinds.now c.args.at.now.state) (none_below c.args.task.now.limit)
-    (none_fresh c.args.progress.now.lemmas c.args.at.now.state c.args.allowed (λ any. not_both c.is_closed.result (c.is_closed.ensures.1 any) c.if-is_closed.false)) c.requires.gaps c.loop-next-test.false c.loop-next.invariant.1 (c.in_ok-ends_open.ensures.no c.if-branch.false) c.loop-next.invariant.0)
+    (none_fresh c.args.progress.now.lemmas c.args.at.now.state c.args.allowed (λ any. both_ways c.is_closed.result c.if-is_closed.false (c.is_closed.ensures.1 any))) c.requires.gaps c.loop-next-test.false c.loop-next.invariant.1 (c.in_ok-ends_open.ensures.no c.if-branch.false) c.loop-next.invariant.0)
     (c.in-Ok-keep_one.ensures.lemmas ∙ ap (λ w. c.loop-next.progress.lemmas ++ kept_at c.args.task.now.kinds.now.nets c.args.at.now.state c.args.allowed w ∷ []) c.new-none.ensures) c.in-Ok-keep_one.ensures.noted c.in-Ok-keep_one.ensures.few
 
 pub closes-returns-in-Ok-keep_one-clause-closed : goal.closes-returns-in-Ok-keep_one-clause-closed
@@ -101,7 +101,7 @@ closes-returns-in-Ok-keep_one-clause-closed g t c = λ e.
 pub closes-returns-clause-spent : goal.closes-returns-clause-spent
 closes-returns-clause-spent g t c = λ e.
     let sound : AreKept (g.B.RowBound.value c.args.task.now.bound.now) c.args.task.now.pins.now c.args.task.now.limit c.args.task.now.kinds.now c.args.task.now.gaps (c.loop-next.progress.lemmas ++ map (kept_at c.args.task.now.kinds.now.nets c.args.at.now.state c.args.allowed) ([] ∷ [])) = kept_sound (g.B.RowBound.value c.args.task.now.bound.now) c.args.task.now.pins.now c.args.task.now.limit c.args.task.now.kinds.now c.args.task.now.gaps c.args.task.now.budget c.args.progress.now c.loop-next.progress c.args.at.now.state c.args.allowed ([] ∷ []) c.args.task.now.candidates.now c.loop-next.next-index c.show_limits.ensures c.requires.candidates c.requires.numbered.valid c.requires.ends (none_of_open c.args.task.now.pins.now c.args.task.now.kinds.now c.args.at.now.state) (none_below c.args.task.now.limit)
-    (none_fresh c.args.progress.now.lemmas c.args.at.now.state c.args.allowed (λ any. not_both c.is_closed.result (c.is_closed.ensures.1 any) c.if-is_closed.false)) c.requires.gaps c.loop-next-test.false c.loop-next.invariant.1 (c.in_ok-ends_open.ensures.no c.if-branch.false) c.loop-next.invariant.0 in
+    (none_fresh c.args.progress.now.lemmas c.args.at.now.state c.args.allowed (λ any. both_ways c.is_closed.result c.if-is_closed.false (c.is_closed.ensures.1 any))) c.requires.gaps c.loop-next-test.false c.loop-next.invariant.1 (c.in_ok-ends_open.ensures.no c.if-branch.false) c.loop-next.invariant.0 in
     kept_spent (g.B.RowBound.value c.args.task.now.bound.now) c.args.task.now.pins.now c.args.task.now.limit c.args.task.now.kinds.now c.args.task.now.gaps c.args.task.now.budget (c.loop-next.progress.lemmas ++ kept_at c.args.task.now.kinds.now.nets c.args.at.now.state c.args.allowed c.new-none.result ∷ []) c.keep_one.new.self.lemmas
     (subst (λ w. AreKept (g.B.RowBound.value c.args.task.now.bound.now) c.args.task.now.pins.now c.args.task.now.limit c.args.task.now.kinds.now c.args.task.now.gaps (c.loop-next.progress.lemmas ++ kept_at c.args.task.now.kinds.now.nets c.args.at.now.state c.args.allowed w ∷ [])) (sym c.new-none.ensures) sound) (c.in-Err-keep_one.ensures.spent e)
 

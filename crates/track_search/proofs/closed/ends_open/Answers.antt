@@ -1,6 +1,6 @@
 use Rattle.std.proofs.Common.{[], sym, ◌∙◌}
+use Rattle.std.proofs.lemmas.Bool.{both_ways}
 use Rattle.cell_num.proofs.Lists.{all_one}
-use Rattle.row_cycles.proofs.Loops.{not_both}
 use Rattle.track_search.specs.Visit.{EndsFail}
 use Rattle.track_search.proofs.Uncrowded.{uncrowded_end}
 use Rattle.track_search.proofs.closed.ends_open.Goals as goal
@@ -12,4 +12,4 @@ pub returns-clause-no : goal.returns-clause-no
 returns-clause-no g c = λ e none. all_one (EndsFail c.args.task.now.pins.now c.args.task.now.limit c.args.task.now.kinds.now c.args.state.now) [] (c.in_ok-open.ensures.crowded e [])
 
 pub returns-clause-yes : goal.returns-clause-yes
-returns-clause-yes g c = λ e gaps. uncrowded_end c.args.task.now.pins.now c.args.task.now.limit c.args.task.now.kinds.now c.args.state.now gaps (λ has. not_both c.has_fingers.result ((c.has_fingers.ensures c.args.task.now.kinds.now c.requires.state).1 has) c.if-has_fingers.false) (sym c.in_ok-open.ensures.is ∙ e)
+returns-clause-yes g c = λ e gaps. uncrowded_end c.args.task.now.pins.now c.args.task.now.limit c.args.task.now.kinds.now c.args.state.now gaps (λ has. both_ways c.has_fingers.result c.if-has_fingers.false ((c.has_fingers.ensures c.args.task.now.kinds.now c.requires.state).1 has)) (sym c.in_ok-open.ensures.is ∙ e)

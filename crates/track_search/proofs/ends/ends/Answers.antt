@@ -1,6 +1,6 @@
 use Rattle.std.proofs.Common.{All, Any, subst}
+use Rattle.std.proofs.lemmas.Bool.{both_ways}
 use Rattle.track_search.specs.Visit.{EndsFail}
-use Rattle.row_cycles.proofs.Loops.{not_both}
 use Rattle.track_search.proofs.ends.ends.Goals as goal
 
 pub returns-then-has_fingers-clause-no : goal.returns-then-has_fingers-clause-no
@@ -8,7 +8,7 @@ returns-then-has_fingers-clause-no g c = λ e none. absurd (none ((c.has_fingers
 
 pub returns-clause-yes : goal.returns-clause-yes
 returns-clause-yes g c = λ e. record {
-  none = λ has. not_both c.has_fingers.result ((c.has_fingers.ensures c.args.task.now.kinds.now c.requires.state).1 has) c.if-has_fingers.false;
+  none = λ has. both_ways c.has_fingers.result c.if-has_fingers.false ((c.has_fingers.ensures c.args.task.now.kinds.now c.requires.state).1 has);
   go = subst (Any (λ way. EndsFail c.args.task.now.pins.now c.args.task.now.limit c.args.task.now.kinds.now c.args.state.now way → ⊥)) c.as_slice.ensures (c.in_ok-go.ensures.yes e);
 }
 

@@ -1,9 +1,10 @@
 use Rattle.std.proofs.Common.{◌≡◌, false, true, get_or, subst, sym, ◌∙◌}
-use Rattle.row_cycles.proofs.Loops.{no_from, not_both}
+use Rattle.std.proofs.lemmas.Bool.{both_ways}
+use Rattle.row_cycles.proofs.Loops.{no_from}
 use Rattle.cycle_search.proofs.below.Below.has.Goals as goal
 
 pub returns-then-not-is_net : goal.returns-then-not-is_net
-returns-then-not-is_net c = no_from (λ h. not_both c.is_net.result (c.is_net.ensures.1 h.0) c.if-not-is_net.true)
+returns-then-not-is_net c = no_from (λ h. both_ways c.is_net.result c.if-not-is_net.true (c.is_net.ensures.1 h.0))
 
 pub returns : goal.returns
 returns c = (

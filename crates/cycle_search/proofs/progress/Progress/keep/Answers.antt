@@ -1,5 +1,5 @@
 use Rattle.std.proofs.Common.{rules}
-use Rattle.row_cycles.proofs.Loops.{not_both}
+use Rattle.std.proofs.lemmas.Bool.{both_ways}
 use Rattle.cycle_search.proofs.Visited.{grown_none, grown_push, kept_push, push_covers}
 use Rattle.cycle_search.proofs.progress.Progress.keep.Goals as goal
 
@@ -9,13 +9,13 @@ returns-then-is_idle-clause-grown g c = grown_none c.args.self.now
 pub returns-then-task-len-clause-spent : goal.returns-then-task-len-clause-spent
 returns-then-task-len-clause-spent g c = λ e. record {
   lemmas = c.add.new.self.lemmas;
-  kept = kept_push (g.B.RowBound.value c.args.task.now.bound.now) c.args.task.now.pins.now c.args.task.now.kinds.now c.args.task.now.gaps c.args.self.now.lemmas c.add.new.self.lemmas c.args.lemma c.args.at.now.state c.in_ok-add.ensures.lemmas c.requires.state c.requires.kept.kept c.requires.justified c.requires.within (λ any. not_both c.is_idle.result (c.is_idle.ensures.1 any) c.if-is_idle.false);
+  kept = kept_push (g.B.GapBound.value c.args.task.now.bound.now) c.args.task.now.pins.now c.args.task.now.kinds.now c.args.task.now.gaps c.args.self.now.lemmas c.add.new.self.lemmas c.args.lemma c.args.at.now.state c.in_ok-add.ensures.lemmas c.requires.state c.requires.kept.kept c.requires.justified c.requires.within (λ any. both_ways c.is_idle.result c.if-is_idle.false (c.is_idle.ensures.1 any));
   more = search rules;
 }
 
 pub returns-clause-kept : goal.returns-clause-kept
 returns-clause-kept g c = record {
-  kept = kept_push (g.B.RowBound.value c.args.task.now.bound.now) c.args.task.now.pins.now c.args.task.now.kinds.now c.args.task.now.gaps c.args.self.now.lemmas c.add.new.self.lemmas c.args.lemma c.args.at.now.state c.in_ok-add.ensures.lemmas c.requires.state c.requires.kept.kept c.requires.justified c.requires.within (λ any. not_both c.is_idle.result (c.is_idle.ensures.1 any) c.if-is_idle.false);
+  kept = kept_push (g.B.GapBound.value c.args.task.now.bound.now) c.args.task.now.pins.now c.args.task.now.kinds.now c.args.task.now.gaps c.args.self.now.lemmas c.add.new.self.lemmas c.args.lemma c.args.at.now.state c.in_ok-add.ensures.lemmas c.requires.state c.requires.kept.kept c.requires.justified c.requires.within (λ any. both_ways c.is_idle.result c.if-is_idle.false (c.is_idle.ensures.1 any));
   few = search rules;
   noted = c.in_ok-add.ensures.noted c.args.task.now.kinds.now c.requires.numbered c.requires.state c.requires.kept.noted;
 }
