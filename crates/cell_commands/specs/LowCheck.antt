@@ -22,7 +22,8 @@ use Rattle.cell_report.specs.Faults.{fault_line}
 use Rattle.cell_report.specs.Logs.{low_checked_text}
 use Rattle.cell_report.specs.TrackFaults.{track_fault}
 
--- the bytes are the text of a certificate that is accepted, and proves this
+-- The bytes are the text of a certificate that is accepted, and proves this. Its lemmas on tracks follow by the
+-- component bound, those on cycles by the needs of the cell's states.
 abbrev pub IsTextOfTracks : Inputs → List ℕ → TracksProved → Type 0
 IsTextOfTracks inputs bytes proved =
     WithKinds inputs.fingers

@@ -43,7 +43,9 @@ IsOpenBy Log inputs proved (held.Log spent) = log.IsUnfinished inputs proved spe
 IsOpenBy Trails inputs proved (held.Trails spent) = IsOpenByTrails inputs proved spent
 IsOpenBy _ inputs proved _ = ⊥
 
--- There is none of a row, since the fingers of this gate pair in more ways than its checker lists. A log lists none.
+-- The search ends at this gate, without a row. In some order of the gates it is the first with too many ways to pair
+-- its fingers, of those that are not left open. Or it is the first that is left open, and every row has more gaps than
+-- lemmas over that order prove. A search for a log never ends so.
 abbrev pub Crowds : Evidence → Inputs → NetNo → Type 0
 Crowds Log inputs gate = ⊥
 Crowds Trails inputs gate = IsCrowded inputs.fingers gate

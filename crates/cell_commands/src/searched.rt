@@ -24,7 +24,8 @@ pub enum Searched {
         certificate: Certificate,
         proved: u32,
     },
-    /// The fingers of the gate pair in more ways than a checker lists.
+    /// There are too many ways to pair the fingers of the gate. It is the first such gate that is not left open. Or it
+    /// is the first that is left open, and each row has more gaps than lemmas prove then.
     Crowded {
         gate: NetNo,
     },

@@ -10,6 +10,9 @@ use Rattle.row_model.specs.Gaps.{gaps_of}
 use Rattle.row_state.specs.declared.kind.Kinds.{Kinds}
 use Rattle.row_state.specs.Component.{component_value}
 use Rattle.row_state.specs.Start.{AreKinds, AreSomeKinds}
+use Rattle.row_needs.specs.declared.need_bound.NeedBound.{NeedBound}
+use Rattle.row_needs.specs.declared.need_bound.TheConstants.{MOST_LEFTOVERS}
+use Rattle.row_needs.specs.Bound.{IsBoundOf, value_by}
 use Rattle.row_place.specs.Places.{placement_of}
 use Rattle.row_place.specs.Trunks.{HasPins}
 use Rattle.channel_route.specs.declared.routing.Routing.{Routing}
@@ -19,12 +22,13 @@ use Rattle.row_cycles.specs.declared.lemma.CycleLemma.{CycleLemma}
 use Rattle.row_cycles.specs.Above.{HasCycle, above_of}
 use Rattle.row_cycles.specs.Certificate.{Certifies}
 use Rattle.row_cycles.specs.Fits.{CycleFits}
-use Rattle.cycle_search.specs.Search.{AreKept, IsFirstWired, IsSpent}
+use Rattle.cycle_search.specs.Search.{AreKept, IsFirstWired}
 use Rattle.track_log.specs.declared.certificate.TrackCertificate.{TrackCertificate}
 use Rattle.track_log.specs.Fits.{LemmaFits}
 use Rattle.track_search.specs.Kept.{IsKeptWithin}
 use Rattle.cell_inputs.specs.Inputs.{AreInputs, Inputs}
-use Rattle.cell_make.specs.Low.{CertifiesCycles, CertifyUnwired, IsFirstLeastWired, IsLeast, IsUnwiredEnd, IsWired, NoneIsWiredWithin, ProvesTracks}
+use Rattle.cell_make.specs.Low.{CertifiesCycles, IsFirstLeastWired, IsLeast, IsUnwiredEnd, IsWired, NoneIsWiredWithin, ProvesTracks}
+use Rattle.cell_make.specs.LowCycles.{CertifyUnwired, IsPassSpent}
 use Rattle.cell_make.specs.LowEnded.{nothing_at, unwired_at}
 use Rattle.cell_make.specs.LowWired.{AreBelow, IsBelow}
 use Rattle.cell_make.proofs.LowRows.{fewer_than_columns, pins_there}
@@ -71,8 +75,8 @@ module _ (inputs : Inputs) (k : Kinds) (gaps : ℕ) (are : AreInputs inputs) (ki
       nothing_kept = record { lists = []; limits = refl; kept = tt; few = omega arith; last = refl }
 
   -- after one that found none, no row with as many gaps can be wired
-  pub goes_on : (lemmas : List CycleLemma) (came : TrackCertificate) → gaps ≤ 63 → Certifies component_value inputs.cell.pins k gaps lemmas → AreKept component_value inputs.cell.pins k gaps lemmas → length lemmas ≤ inputs.tech.budget → All (CycleFits k) lemmas → AreUnwired inputs.cell.pins inputs.fingers gaps → came ≡ unwired_at lemmas gaps inputs.fingers.nets → IsBelow inputs k (gaps + 1) came
-  goes_on lemmas came few certified kept within fit unwired comes = subst (IsBelow inputs k (gaps + 1)) (sym comes) (record {
+  pub goes_on : (bound : NeedBound) (lemmas : List CycleLemma) (came : TrackCertificate) → IsBoundOf MOST_LEFTOVERS k bound → gaps ≤ 63 → Certifies (value_by bound) inputs.cell.pins k gaps lemmas → AreKept (value_by bound) inputs.cell.pins k gaps lemmas → length lemmas ≤ inputs.tech.budget → All (CycleFits k) lemmas → AreUnwired inputs.cell.pins inputs.fingers gaps → came ≡ unwired_at lemmas gaps inputs.fingers.nets → IsBelow inputs k (gaps + 1) came
+  goes_on bound lemmas came of few certified kept within fit unwired comes = subst (IsBelow inputs k (gaps + 1)) (sym comes) (record {
     known = inr (record { none = none; next = refl; tracks = refl; certified = (k, kinds, some, by) });
     proves = record {
       least = λ row r arranged low legal. absurd (unwired row r arranged low legal);
@@ -86,7 +90,7 @@ module _ (inputs : Inputs) (k : Kinds) (gaps : ℕ) (are : AreInputs inputs) (ki
       none row arranged low wired = unwired row wired.0 arranged low wired.1
 
       certify : CertifyUnwired inputs k gaps lemmas
-      certify = record { certified = certified; kept = kept; within = within }
+      certify = record { bound = bound; is = of; certified = certified; kept = kept; within = within }
 
       by : CertifiesCycles inputs k (unwired_at lemmas gaps inputs.fingers.nets)
       by = record { unwired = certify; alone = refl }
@@ -117,7 +121,7 @@ module _ (inputs : Inputs) (k : Kinds) (gaps : ℕ) (are : AreInputs inputs) (ki
           subst (λ n. AreBelow inputs k n below.cycles) same is.cycles,
         )
 
-    pub spends : IsSpent component_value inputs.cell.pins k gaps inputs.tech.budget → IsUnwiredEnd inputs below false × ProvesTracks inputs below
+    pub spends : IsPassSpent inputs k gaps → IsUnwiredEnd inputs below false × ProvesTracks inputs below
     spends spent = (record { gaps = gaps; below = is.known; spent = (k, kinds, some, spent) }, is.proves)
 
     -- no row has as many gaps as columns

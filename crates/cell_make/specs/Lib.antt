@@ -2,6 +2,7 @@
 pub mod CellOfRow
 pub mod Extent
 pub mod Low
+pub mod LowCycles
 pub mod Making
 pub mod Rows
 pub mod Searched

@@ -1,6 +1,6 @@
 -- The lowest row: of all rows that can be wired with the fewest gaps the first on the fewest tracks, with the first of
 -- its routings on these tracks. What the search for it results in, and what drawing it does.
-use Rattle.std.specs.Prelude.{ℕ, ◌≡◌, ◌≤◌, ◌+◌, ◌⊎◌, Bool, true, false, List, [], length}
+use Rattle.std.specs.Prelude.{ℕ, ◌≡◌, ◌≤◌, ◌+◌, ◌⊎◌, Bool, true, false, List, []}
 use Rattle.cell_num.specs.declared.finger.Fingers.{Fingers}
 use Rattle.row_model.specs.declared.column.Column.{Column}
 use Rattle.row_model.specs.Arrangement.{IsArrangement}
@@ -17,9 +17,6 @@ use Rattle.channel_route.specs.declared.routing.Routing.{Routing}
 use Rattle.channel_route.specs.Cycle.{HasNoCycle}
 use Rattle.channel_route.specs.Routing.{IsLegal}
 use Rattle.first_route.specs.First.{IsFirstRouting}
-use Rattle.row_cycles.specs.declared.lemma.CycleLemma.{CycleLemma}
-use Rattle.row_cycles.specs.Certificate.{Certifies}
-use Rattle.cycle_search.specs.Search.{AreKept, IsSpent}
 use Rattle.track_log.specs.declared.certificate.TrackCertificate.{TrackCertificate}
 use Rattle.track_log.specs.Fits.{CertificateFits}
 use Rattle.track_search.specs.Fewest.{Prove}
@@ -31,6 +28,7 @@ use Rattle.cell_inputs.specs.declared.style.Wiring.TheVariants.{Straight}
 use Rattle.cell_inputs.specs.Inputs.{Inputs}
 use Rattle.cell_make.specs.declared.low_planned.LowPlanned.{LowPlanned}
 use Rattle.cell_make.specs.declared.low_planned.LowPlanned.TheVariants as planned
+use Rattle.cell_make.specs.LowCycles.{CertifyUnwired, IsPassSpent}
 use Rattle.cell_make.specs.Making.{IsRouted}
 use Rattle.cell_make.specs.Rows.{DrawAnswer, DrawsAs, RowDrawn, RowCyclic, RowTall}
 use Rattle.cell_make.specs.Style.{IsRing, IsToldRing}
@@ -80,13 +78,6 @@ pub record HasFirstLeast (inputs : Inputs) : Type 0 where
   pub pins : HasPins (placement_of row) inputs.cell.pins
 
 -- ---- the certificate
-
--- Lemmas on cycles certify that no row with at most that many gaps can be wired. None follows from an earlier one, and
--- they are no more than the budget.
-pub record CertifyUnwired (inputs : Inputs) (k : Kinds) (gaps : ℕ) (cycles : List CycleLemma) : Type 0 where
-  pub certified : Certifies component_value inputs.cell.pins k gaps cycles
-  pub kept : AreKept component_value inputs.cell.pins k gaps cycles
-  pub within : length cycles ≤ inputs.tech.budget
 
 -- no arrangement has fewer gaps than the certificate, and it has no lemma on cycles
 pub record IsAtFewest (inputs : Inputs) (certificate : TrackCertificate) : Type 0 where
@@ -186,7 +177,7 @@ pub record ProvesFewerUnwired (inputs : Inputs) (gaps : ℕ) (certificate : Trac
 pub record IsWiredSpent (inputs : Inputs) (certificate : TrackCertificate) : Type 0 where
   pub gaps : ℕ
   pub below : IsNothingProved inputs gaps certificate ⊎ ProvesFewerUnwired inputs gaps certificate
-  pub spent : WithKinds inputs.fingers (λ k. IsSpent component_value inputs.cell.pins k gaps inputs.tech.budget)
+  pub spent : WithKinds inputs.fingers (λ k. IsPassSpent inputs k gaps)
 
 -- no row can be wired, or the budget is spent
 abbrev pub IsUnwiredEnd : Inputs → TrackCertificate → (none_wired : Bool) → Type 0

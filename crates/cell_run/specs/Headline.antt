@@ -150,7 +150,7 @@ pub record IsMadeCell (origin : Origin) (style : Style) (inputs : Inputs) (out :
 -- ---- why there is none
 
 -- In the first least row, or in the one that the given file lists, nets, or with doglegs pieces of nets, are above
--- each other in a cycle, which the report says. The evidence that a search found of that row is written all the same.
+-- each other in a cycle, which the report names. The evidence that a search found of that row is written all the same.
 pub record IsCyclicCell (origin : Origin) (style : Style) (inputs : Inputs) (out : List ℕ)
     (old new : View) : Type 0 where
   pub row : List Column

@@ -46,7 +46,8 @@ pub record IsOpenSearch (evidence : Evidence) (inputs : Inputs) (old new : View)
       Both (Says (first_line status.Unfinished ++ unfinished_text proved (lemma_count evidence certificate)
       ++ evidence_text evidence inputs.cell.name certificate)) old.said new.said
 
--- a gate was reported whose fingers pair in more ways than a checker lists
+-- A gate was reported with too many ways to pair its fingers, and no row. It is the first such gate that is not left
+-- open. Or it is the first that is left open, and every row has more gaps than lemmas prove then.
 pub record IsCrowdedCell (evidence : Evidence) (inputs : Inputs) (old new : View) : Type 0 where
   pub gate : NetNo
   pub crowded : Crowds evidence inputs gate
