@@ -23,11 +23,10 @@ use Rattle.trail_state.proofs.Built.{all_choices}
 use Rattle.trail_state.proofs.Grouped.{columns_of_gate}
 use Rattle.trail_state.proofs.Members.{filter_on, passes_from}
 use Rattle.open_gates.specs.Open.{fingers_at, fingers_beside}
-use Rattle.trail_halves.specs.Open.{IsHalfOpen, IsOpenChoice, OpenChoice, half_in, is_filled, is_none, row_of}
+use Rattle.trail_halves.specs.declared.choice.OpenChoice.{OpenChoice}
+use Rattle.trail_halves.specs.Open.{IsHalfOpen, IsOpenChoice, half_in, is_filled, is_none, row_of}
 use Rattle.trail_halves.proofs.Parted.{Alone, alone_in, other_row}
-use Rattle.trail_pools.specs.declared.choice.PoolChoice.{PoolChoice}
-use Rattle.trail_pools.specs.Choices.{ends_on, filled_choice, first_front, front_of, open_choice}
-use Rattle.trail_pools.specs.Choices.{open_choices_of}
+use Rattle.trail_pools.specs.Choices.{ends_on, filled_choice, first_front, front_of, open_choices_of}
 use Rattle.trail_pools.specs.Levels.{IsListed}
 use Rattle.trail_pools.specs.Meeting.{stays_open}
 use Rattle.trail_pools.proofs.Beside.{Found, Made, e_of, found, made, x_of, y_of}
@@ -37,10 +36,10 @@ use Rattle.trail_pools.proofs.Standing.{IsOn, Stands, stand}
 
 -- ---- the list
 
-abbrev half_front : Fingers → Row → ℕ → List PoolChoice
+abbrev pub half_front : Fingers → Row → ℕ → List OpenChoice
 half_front f r g = front_of r (ends_on g (fingers_at r f)) (ends_on g (fingers_beside r f))
 
-abbrev filled_list : Fingers → ℕ → List PoolChoice
+abbrev pub filled_list : Fingers → ℕ → List OpenChoice
 filled_list f g = map filled_choice (choices_of f g)
 
 pub open_list : (f : Fingers) (r : Row) (counted : ℕ → Bool) (g : ℕ) → stays_open f r counted g ≡ true
@@ -89,7 +88,7 @@ module _ (f : Fingers) (ok : AreFingers f) (r : Row) (g : ℕ) (within : g < f.n
         let xs : List FingerEnds = ends_on g (fingers_at r f) in
         let ys : List FingerEnds = ends_on g (fingers_beside r f) in
         let hs : List FingerEnds = filter_map (half_in r) h.columns in
-        let first : PoolChoice = record { edges = []; halves = xs } in
+        let first : OpenChoice = record { edges = []; halves = xs } in
         let xs_are : IsPermutation xs (map x_of m.pairs ++ choice.halves) =
         IsPermutation-trans xs (map nets_at (fingers_in r h.columns)) (map x_of m.pairs ++ choice.halves) (at_row r)
         (IsPermutation-trans (map nets_at (fingers_in r h.columns)) (map x_of m.pairs ++ hs)
@@ -108,24 +107,24 @@ module _ (f : Fingers) (ok : AreFingers f) (r : Row) (g : ℕ) (within : g < f.n
           halves = l.halves;
         }
 
-  listed_half : (list : List PoolChoice) (choice : OpenChoice) → Found list choice.edges choice.halves
-      → IsListed (map open_choice list) choice
+  listed_half : (list : List OpenChoice) (choice : OpenChoice) → Found list choice.edges choice.halves
+      → IsListed list choice
   listed_half list choice k = record {
-    it = open_choice k.it;
-    there = contains_map open_choice list k.it k.there;
+    it = k.it;
+    there = k.there;
     edges = k.edges;
     halves = k.halves;
   }
 
   -- a gate without half columns of the row, or whose half columns are filled
   listed_filled : (choice : OpenChoice) → IsChoice f g choice.edges → choice.halves ≡ []
-      → IsListed (map open_choice (filled_list f g)) choice
+      → IsListed (filled_list f g) choice
   listed_filled choice is none =
       let k : HasChoice (choices_of f g) choice.edges = (all_choices f ok g within choice.edges).0 is in
-      let it : PoolChoice = filled_choice k.it in
+      let it : OpenChoice = filled_choice k.it in
       record {
-        it = open_choice it;
-        there = contains_map open_choice (filled_list f g) it (contains_map filled_choice (choices_of f g) k.it k.there);
+        it = it;
+        there = contains_map filled_choice (choices_of f g) k.it k.there;
         edges = k.same;
         halves = subst (λ l. IsPermutation l []) (sym none) (IsPermutation-refl []);
       }
@@ -184,15 +183,15 @@ module _ (f : Fingers) (ok : AreFingers f) (r : Row) (g : ℕ) (within : g < f.n
         )
 
     all_listed : (choice : OpenChoice) → IsOpenChoice f r counted g choice
-        → IsListed (map open_choice (open_choices_of f r counted g)) choice
+        → IsListed (open_choices_of f r counted g) choice
     all_listed choice is = elim (cases_Bool (stays_open f r counted g)) [
       | inl on ↦
-          subst (λ l. IsListed (map open_choice l) choice) (sym (open_list f r counted g on))
+          subst (λ l. IsListed l choice) (sym (open_list f r counted g on))
           (listed_half (half_front f r g) choice
           (half_found (is_more on) choice
           (is.0 (and_parts (counted g) (ltb (on_gate g (fingers_beside r f)) (on_gate g (fingers_at r f))) on).0)))
       | inr off ↦
-          subst (λ l. IsListed (map open_choice l) choice) (sym (closed_list f r counted g off))
+          subst (λ l. IsListed l choice) (sym (closed_list f r counted g off))
           (elim (cases_Bool (counted g)) [
             | inl in_row ↦
                 let k : IsChoice f g choice.edges × (choice.halves ≡ []) = full_choice in_row off choice (is.0 in_row) in
@@ -217,7 +216,7 @@ module _ (f : Fingers) (ok : AreFingers f) (r : Row) (g : ℕ) (within : g < f.n
     on_gate_beside N = gate_all f.p
 
     module _ (more : on_gate g (row_of (other_row r) f) < on_gate g (row_of r f)) (choice : OpenChoice)
-        (it : PoolChoice) (there : Contains (half_front f r g) it) (es : IsPermutation choice.edges it.edges)
+        (it : OpenChoice) (there : Contains (half_front f r g) it) (es : IsPermutation choice.edges it.edges)
         (hs : IsPermutation choice.halves it.halves) where
       abbrev xs : List FingerEnds
       xs = ends_on g (fingers_at r f)
@@ -234,7 +233,7 @@ module _ (f : Fingers) (ok : AreFingers f) (r : Row) (g : ℕ) (within : g < f.n
       by_pairs : Made r (first_front xs) ys it
       by_pairs = made r ys (first_front xs) it there
 
-      begun : PoolChoice
+      begun : OpenChoice
       begun = record { edges = []; halves = xs }
 
       begun_is : begun ≡ by_pairs.choice
@@ -243,11 +242,11 @@ module _ (f : Fingers) (ok : AreFingers f) (r : Row) (g : ℕ) (within : g < f.n
 
       begun_halves : by_pairs.choice.halves ≡ xs
       unfolding begun
-      begun_halves = sym (ap (λ (c : PoolChoice). c.halves) begun_is)
+      begun_halves = sym (ap (λ (c : OpenChoice). c.halves) begun_is)
 
       begun_edges : by_pairs.choice.edges ≡ []
       unfolding begun
-      begun_edges = sym (ap (λ (c : PoolChoice). c.edges) begun_is)
+      begun_edges = sym (ap (λ (c : OpenChoice). c.edges) begun_is)
 
       columns : Stands f r mine others by_pairs.pairs it.halves
       columns =
@@ -313,14 +312,11 @@ module _ (f : Fingers) (ok : AreFingers f) (r : Row) (g : ℕ) (within : g < f.n
     )
 
     of_filled : stays_open f r counted g ≡ false → (choice : OpenChoice)
-        → IsListed (map open_choice (filled_list f g)) choice → IsOpenChoice f r counted g choice
+        → IsListed (filled_list f g) choice → IsOpenChoice f r counted g choice
     of_filled off choice k =
-        let i : Image open_choice (filled_list f g) k.it = in_map open_choice (filled_list f g) k.it k.there in
-        let j : Image filled_choice (choices_of f g) i.of = in_map filled_choice (choices_of f g) i.of i.listed in
-        let es : j.of ≡ k.it.edges =
-        ap (λ (c : PoolChoice). c.edges) j.is ∙ ap (λ (c : OpenChoice). c.edges) i.is in
-        let hs : [] ≡ k.it.halves =
-        ap (λ (c : PoolChoice). c.halves) j.is ∙ ap (λ (c : OpenChoice). c.halves) i.is in
+        let j : Image filled_choice (choices_of f g) k.it = in_map filled_choice (choices_of f g) k.it k.there in
+        let es : j.of ≡ k.it.edges = ap (λ (c : OpenChoice). c.edges) j.is in
+        let hs : [] ≡ k.it.halves = ap (λ (c : OpenChoice). c.halves) j.is in
         full_open off choice
         ((all_choices f ok g within choice.edges).1
         (record { it = j.of; there = j.listed; same = subst (IsPermutation choice.edges) (sym es) k.edges }))
@@ -328,27 +324,23 @@ module _ (f : Fingers) (ok : AreFingers f) (r : Row) (g : ℕ) (within : g < f.n
         (IsPermutation-sym choice.halves [] (subst (IsPermutation choice.halves) (sym hs) k.halves)))
 
     of_half : stays_open f r counted g ≡ true → (choice : OpenChoice)
-        → IsListed (map open_choice (half_front f r g)) choice → IsOpenChoice f r counted g choice
+        → IsListed (half_front f r g) choice → IsOpenChoice f r counted g choice
     of_half on choice k =
-        let i : Image open_choice (half_front f r g) k.it = in_map open_choice (half_front f r g) k.it k.there in
-        let es : k.it.edges ≡ i.of.edges = sym (ap (λ (c : OpenChoice). c.edges) i.is) in
-        let hs : k.it.halves ≡ i.of.halves = sym (ap (λ (c : OpenChoice). c.halves) i.is) in
         let counts : counted g ≡ true =
         (and_parts (counted g) (ltb (on_gate g (fingers_beside r f)) (on_gate g (fingers_at r f))) on).0 in (
-          λ out. half_open (is_more on) choice i.of i.listed (subst (IsPermutation choice.edges) es k.edges)
-              (subst (IsPermutation choice.halves) hs k.halves),
+          λ out. half_open (is_more on) choice k.it k.there k.edges k.halves,
           λ out. absurd (both_ways (counted g) out counts),
         )
 
-    of_list : (choice : OpenChoice) → IsListed (map open_choice (open_choices_of f r counted g)) choice
+    of_list : (choice : OpenChoice) → IsListed (open_choices_of f r counted g) choice
         → IsOpenChoice f r counted g choice
     of_list choice k = elim (cases_Bool (stays_open f r counted g)) [
       | inl on ↦
-          of_half on choice (subst (λ l. IsListed (map open_choice l) choice) (open_list f r counted g on) k)
+          of_half on choice (subst (λ l. IsListed l choice) (open_list f r counted g on) k)
       | inr off ↦
-          of_filled off choice (subst (λ l. IsListed (map open_choice l) choice) (closed_list f r counted g off) k)
+          of_filled off choice (subst (λ l. IsListed l choice) (closed_list f r counted g off) k)
     ]
 
     pub all_open_choices : (choice : OpenChoice) → IsOpenChoice f r counted g choice
-        ↔ IsListed (map open_choice (open_choices_of f r counted g)) choice
+        ↔ IsListed (open_choices_of f r counted g) choice
     all_open_choices choice = (all_listed choice, of_list choice)

@@ -19,10 +19,14 @@ use Rattle.trail_state.proofs.Follows.{added}
 use Rattle.open_gates.specs.Merged.{net_in}
 use Rattle.trail_check.specs.Graph.{is_odd}
 use Rattle.trail_halves.specs.Halves.{half_ends, links, place_of}
-use Rattle.trail_halves.specs.Open.{OpenChoice, edges_in, halves_in, open_ends}
+use Rattle.trail_halves.specs.declared.choice.OpenChoice.{OpenChoice}
+use Rattle.trail_halves.specs.Open.{edges_in, halves_in, open_ends}
 use Rattle.trail_pools.specs.Levels.{AreFewer, AreLevels, AreListed, ArePlaces, IsOpenEdge, IsOpenHalf, IsOpenNode}
-use Rattle.trail_pools.specs.Levels.{IsPlace, MeetsOpen, PoolLevel, ends_along, first_open, none_open}
-use Rattle.trail_pools.specs.State.{OpenPlaces, PoolState, ends_after, start, state_after}
+use Rattle.trail_pools.specs.declared.level.PoolLevel.{PoolLevel}
+use Rattle.trail_pools.specs.Levels.{IsPlace, MeetsOpen, ends_along, first_open, none_open}
+use Rattle.trail_pools.specs.declared.level.OpenPlaces.{OpenPlaces}
+use Rattle.trail_pools.specs.declared.state.PoolState.{PoolState}
+use Rattle.trail_pools.specs.State.{ends_after, start, state_after}
 use Rattle.trail_pools.proofs.Ends.{settled_is}
 use Rattle.trail_pools.proofs.States.{After, IsState, certain}
 use Rattle.trail_pools.proofs.Step.{gate_done}

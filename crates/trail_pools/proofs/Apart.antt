@@ -20,10 +20,10 @@ use Rattle.open_gates.specs.Merged.{net_in}
 use Rattle.trail_check.specs.Graph.{degree, is_odd}
 use Rattle.trail_check.proofs.Edges.{meets}
 use Rattle.trail_halves.specs.Halves.{edge_placed, free, half_placed, links, place_of, short, waiting}
-use Rattle.trail_halves.specs.Open.{OpenChoice}
+use Rattle.trail_halves.specs.declared.choice.OpenChoice.{OpenChoice}
 use Rattle.trail_halves.proofs.Pools.{placed_in}
 use Rattle.trail_pools.specs.Levels.{ArePlaces, IsOpenEdge, IsOpenHalf, IsOpenNode, IsPlace, MeetsOpen}
-use Rattle.trail_pools.specs.State.{OpenPlaces}
+use Rattle.trail_pools.specs.declared.level.OpenPlaces.{OpenPlaces}
 use Rattle.trail_pools.proofs.Placed.{odd_append}
 use Rattle.trail_pools.proofs.Tracks.{odd_shut}
 

@@ -18,13 +18,13 @@ use Rattle.trail_state.specs.declared.edge.FingerEnds.{FingerEnds}
 use Rattle.trail_state.specs.Fronts.{without}
 use Rattle.trail_state.specs.Sorted.{inserted, inserted_permutes}
 use Rattle.trail_state.proofs.Listed.{append_from, nets_uncons, one_taken}
-use Rattle.trail_pools.specs.declared.choice.PoolChoice.{PoolChoice}
-use Rattle.trail_pools.specs.Choices.{beside, beside_one, column_edges, is_same, next_front, with_all, with_new}
-use Rattle.trail_pools.specs.Same.{choice_decides}
+use Rattle.trail_halves.specs.declared.choice.OpenChoice.{OpenChoice}
+use Rattle.trail_pools.specs.Choices.{beside, beside_one, column_edges, next_front, with_all, with_new}
+use Rattle.trail_halves.specs.Same.{choice_decides, is_same}
 
 -- ---- each choice once
 
-new_there : (cs : List PoolChoice) (c : PoolChoice) → Contains (with_new cs c) c
+new_there : (cs : List OpenChoice) (c : OpenChoice) → Contains (with_new cs c) c
 new_there cs c = elim (cases_Bool (list_any (is_same c) cs)) [
   | inl known ↦
       let s : Some' (λ d. is_same c d ≡ true) cs = test_finds (is_same c) cs known in
@@ -35,7 +35,7 @@ new_there cs c = elim (cases_Bool (list_any (is_same c) cs)) [
       (Contains-append_right cs (c ∷ []) c (contains_here c []))
 ]
 
-new_keeps : (cs : List PoolChoice) (d c : PoolChoice) → Contains cs c → Contains (with_new cs d) c
+new_keeps : (cs : List OpenChoice) (d c : OpenChoice) → Contains cs c → Contains (with_new cs d) c
 new_keeps cs d c there = elim (cases_Bool (list_any (is_same d) cs)) [
   | inl known ↦ subst (λ l. Contains l c) (sym (ap (λ b. if b then cs else cs ++ d ∷ []) known)) there
   | inr fresh ↦
@@ -43,18 +43,18 @@ new_keeps cs d c there = elim (cases_Bool (list_any (is_same d) cs)) [
       (Contains-append_left cs (d ∷ []) c there)
 ]
 
-all_kept : (more cs : List PoolChoice) (c : PoolChoice) → Contains cs c → Contains (with_all cs more) c
+all_kept : (more cs : List OpenChoice) (c : OpenChoice) → Contains cs c → Contains (with_all cs more) c
 all_kept [] cs c there = there
 all_kept (d ∷ more) cs c there = all_kept more (with_new cs d) c (new_keeps cs d c there)
 
-each_there : (more cs : List PoolChoice) (c : PoolChoice) → Contains more c → Contains (with_all cs more) c
+each_there : (more cs : List OpenChoice) (c : OpenChoice) → Contains more c → Contains (with_all cs more) c
 each_there [] cs c there = absurd (contains_none c there)
 each_there (d ∷ more) cs c there = elim (contains_cons d more c there) [
   | inl same ↦ all_kept more (with_new cs d) c (subst (Contains (with_new cs d)) same (new_there cs d))
   | inr rest ↦ each_there more (with_new cs d) c rest
 ]
 
-new_from : (cs : List PoolChoice) (d c : PoolChoice) → Contains (with_new cs d) c → Contains cs c ⊎ (d ≡ c)
+new_from : (cs : List OpenChoice) (d c : OpenChoice) → Contains (with_new cs d) c → Contains cs c ⊎ (d ≡ c)
 new_from cs d c there = elim (cases_Bool (list_any (is_same d) cs)) [
   | inl known ↦ inl (subst (λ l. Contains l c) (ap (λ b. if b then cs else cs ++ d ∷ []) known) there)
   | inr fresh ↦ elim (append_from cs (d ∷ []) c
@@ -64,7 +64,7 @@ new_from cs d c there = elim (cases_Bool (list_any (is_same d) cs)) [
       ]
 ]
 
-all_from : (more cs : List PoolChoice) (c : PoolChoice) → Contains (with_all cs more) c → Contains cs c ⊎ Contains more c
+all_from : (more cs : List OpenChoice) (c : OpenChoice) → Contains (with_all cs more) c → Contains cs c ⊎ Contains more c
 all_from [] cs c there = inl there
 all_from (d ∷ more) cs c there = elim (all_from more (with_new cs d) c there) [
   | inl old ↦ elim (new_from cs d c old) [
@@ -75,31 +75,31 @@ all_from (d ∷ more) cs c there = elim (all_from more (with_new cs d) c there) 
 ]
 
 module _ (r : Row) (y : FingerEnds) where
-  abbrev behind : List PoolChoice → List PoolChoice → List PoolChoice
-  behind cs front = fold (λ (all : List PoolChoice) (c : PoolChoice). with_all all (beside r y c)) cs front
+  abbrev behind : List OpenChoice → List OpenChoice → List OpenChoice
+  behind cs front = fold (λ (all : List OpenChoice) (c : OpenChoice). with_all all (beside r y c)) cs front
 
-  front_kept : (front cs : List PoolChoice) (c : PoolChoice) → Contains cs c → Contains (behind cs front) c
+  front_kept : (front cs : List OpenChoice) (c : OpenChoice) → Contains cs c → Contains (behind cs front) c
   front_kept [] cs c there = there
   front_kept (d ∷ front) cs c there =
       front_kept front (with_all cs (beside r y d)) c (all_kept (beside r y d) cs c there)
 
-  each_behind : (front cs : List PoolChoice) (b c : PoolChoice) → Contains front b → Contains (beside r y b) c
+  each_behind : (front cs : List OpenChoice) (b c : OpenChoice) → Contains front b → Contains (beside r y b) c
       → Contains (behind cs front) c
   each_behind [] cs b c there more = absurd (contains_none b there)
   each_behind (d ∷ front) cs b c there more = elim (contains_cons d front b there) [
     | inl same ↦
         front_kept front (with_all cs (beside r y d)) c
-        (each_there (beside r y d) cs c (subst (λ (v : PoolChoice). Contains (beside r y v) c) (sym same) more))
+        (each_there (beside r y d) cs c (subst (λ (v : OpenChoice). Contains (beside r y v) c) (sym same) more))
     | inr rest ↦ each_behind front (with_all cs (beside r y d)) b c rest more
   ]
 
   -- a choice of the front that this one is with the finger beside a half edge
-  record Before (front : List PoolChoice) (c : PoolChoice) : Type 0 where
-    pub choice : PoolChoice
+  record Before (front : List OpenChoice) (c : OpenChoice) : Type 0 where
+    pub choice : OpenChoice
     pub there : Contains front choice
     pub next : Contains (beside r y choice) c
 
-  each_from : (front cs : List PoolChoice) (c : PoolChoice) → Contains (behind cs front) c → Contains cs c ⊎ Before front c
+  each_from : (front cs : List OpenChoice) (c : OpenChoice) → Contains (behind cs front) c → Contains cs c ⊎ Before front c
   each_from [] cs c there = inl there
   each_from (d ∷ front) cs c there = elim (each_from front (with_all cs (beside r y d)) c there) [
     | inl old ↦ elim (all_from (beside r y d) cs c old) [
@@ -109,11 +109,11 @@ module _ (r : Row) (y : FingerEnds) where
     | inr b ↦ inr (record { choice = b.choice; there = contains_there d front b.choice b.there; next = b.next })
   ]
 
-  front_has : (front : List PoolChoice) (b c : PoolChoice) → Contains front b → Contains (beside r y b) c
+  front_has : (front : List OpenChoice) (b c : OpenChoice) → Contains front b → Contains (beside r y b) c
       → Contains (next_front r front y) c
   front_has front b c there more = each_behind front [] b c there more
 
-  front_from : (front : List PoolChoice) (c : PoolChoice) → Contains (next_front r front y) c → Before front c
+  front_from : (front : List OpenChoice) (c : OpenChoice) → Contains (next_front r front y) c → Before front c
   front_from front c there = elim (each_from front [] c there) [
     | inl none ↦ absurd (contains_none c none)
     | inr b ↦ b
@@ -167,14 +167,14 @@ edge_moved pairs rest p edges is =
     (IsPermutation-append_right others (p.e ∷ edges) (inserted p.e edges) (inserted_permutes p.e edges)))
 
 -- a listed choice that has these edges and half edges
-pub record Found (choices : List PoolChoice) (es : List Edge) (hs : List FingerEnds) : Type 0 where
-  pub it : PoolChoice
+pub record Found (choices : List OpenChoice) (es : List Edge) (hs : List FingerEnds) : Type 0 where
+  pub it : OpenChoice
   pub there : Contains choices it
   pub edges : IsPermutation es it.edges
   pub halves : IsPermutation hs it.halves
 
 module _ (r : Row) (hs : List FingerEnds) where
-  pub found : (ys : List FingerEnds) (front : List PoolChoice) (c : PoolChoice) (pairs : List Pair) → Contains front c
+  pub found : (ys : List FingerEnds) (front : List OpenChoice) (c : OpenChoice) (pairs : List Pair) → Contains front c
       → IsPermutation c.halves (map x_of pairs ++ hs) → IsPermutation ys (map y_of pairs) → All (IsPair r) pairs
       → Found (fold (next_front r) front ys) (map e_of pairs ++ c.edges) hs
   found [] front c [] there xs_are ys_are are = record {
@@ -212,10 +212,10 @@ module _ (r : Row) (hs : List FingerEnds) where
       let now : All (IsPair r) (p ∷ rest) = All-permutation (IsPair r) pairs (p ∷ rest) parted are in
       let edge : Contains (column_edges r p.x y) p.e =
       subst (λ v. Contains (column_edges r p.x v) p.e) s.has (All-head (IsPair r) p rest now) in
-      let next : PoolChoice = record { edges = inserted p.e c.edges; halves = left } in
+      let next : OpenChoice = record { edges = inserted p.e c.edges; halves = left } in
       let in_beside : Contains (beside r y c) next =
       contains_flat (beside_one r y c) c.halves p.x next x_there
-      (contains_map (λ (e : Edge). let d : PoolChoice = record { edges = inserted e c.edges; halves = left } in d)
+      (contains_map (λ (e : Edge). let d : OpenChoice = record { edges = inserted e c.edges; halves = left } in d)
       (column_edges r p.x y) p.e edge) in
       let f : Found (fold (next_front r) (next_front r front y) ys) (map e_of rest ++ next.edges) hs =
       found ys (next_front r front y) next rest (front_has r y front c next there in_beside) xs_left ys_left
@@ -230,8 +230,8 @@ module _ (r : Row) (hs : List FingerEnds) where
       }
 
 -- the columns by which a choice of a front becomes this one
-pub record Made (r : Row) (front : List PoolChoice) (ys : List FingerEnds) (it : PoolChoice) : Type 0 where
-  pub choice : PoolChoice
+pub record Made (r : Row) (front : List OpenChoice) (ys : List FingerEnds) (it : OpenChoice) : Type 0 where
+  pub choice : OpenChoice
   pub there : Contains front choice
   pub pairs : List Pair
   pub are : All (IsPair r) pairs
@@ -241,19 +241,19 @@ pub record Made (r : Row) (front : List PoolChoice) (ys : List FingerEnds) (it :
 
 module _ (r : Row) where
   -- the first of the columns
-  first_made : (y : FingerEnds) (ys : List FingerEnds) (front : List PoolChoice) (b it : PoolChoice)
+  first_made : (y : FingerEnds) (ys : List FingerEnds) (front : List OpenChoice) (b it : OpenChoice)
       (m : Made r (next_front r front y) ys it) → Contains front b → Contains (beside r y b) m.choice
       → Made r front (y ∷ ys) it
   first_made y ys front b it m there next =
       let x : Piece (beside_one r y b) b.halves m.choice = in_flat (beside_one r y b) b.halves m.choice next in
       let left : List FingerEnds = without x.of b.halves in
-      let i : Image (λ (e : Edge). let d : PoolChoice = record { edges = inserted e b.edges; halves = left } in d)
+      let i : Image (λ (e : Edge). let d : OpenChoice = record { edges = inserted e b.edges; halves = left } in d)
       (column_edges r x.of y) m.choice =
-      in_map (λ (e : Edge). let d : PoolChoice = record { edges = inserted e b.edges; halves = left } in d)
+      in_map (λ (e : Edge). let d : OpenChoice = record { edges = inserted e b.edges; halves = left } in d)
       (column_edges r x.of y) m.choice x.inside in
       let p : Pair = record { x = x.of; y = y; e = i.of } in
-      let halves_are : left ≡ m.choice.halves = ap (λ (d : PoolChoice). d.halves) i.is in
-      let edges_are : inserted i.of b.edges ≡ m.choice.edges = ap (λ (d : PoolChoice). d.edges) i.is in
+      let halves_are : left ≡ m.choice.halves = ap (λ (d : OpenChoice). d.halves) i.is in
+      let edges_are : inserted i.of b.edges ≡ m.choice.edges = ap (λ (d : OpenChoice). d.edges) i.is in
       let xs_left : IsPermutation left (map x_of m.pairs ++ it.halves) =
       subst (λ l. IsPermutation l (map x_of m.pairs ++ it.halves)) (sym halves_are) m.halves in
       let es_left : IsPermutation (map e_of m.pairs ++ inserted i.of b.edges) it.edges =
@@ -272,7 +272,7 @@ module _ (r : Row) where
             (edge_moved (p ∷ m.pairs) m.pairs p b.edges (IsPermutation-refl (p ∷ m.pairs))) es_left;
       }
 
-  pub made : (ys : List FingerEnds) (front : List PoolChoice) (it : PoolChoice)
+  pub made : (ys : List FingerEnds) (front : List OpenChoice) (it : OpenChoice)
       → Contains (fold (next_front r) front ys) it → Made r front ys it
   made [] front it there = record {
     choice = it;

@@ -17,7 +17,7 @@ use Rattle.open_gates.specs.Merged.{net_in}
 use Rattle.trail_halves.proofs.Pools.{net_le, placed_in, placed_out}
 use Rattle.trail_pools.specs.Levels.{AreFewer, ArePlaces, IsOpenNode, IsPlace, none_open}
 use Rattle.trail_pools.specs.Meeting.{any_ends_free, any_meets, is_open_place, is_open_pool, is_pool_node, open_from}
-use Rattle.trail_pools.specs.State.{OpenPlaces}
+use Rattle.trail_pools.specs.declared.level.OpenPlaces.{OpenPlaces}
 
 -- a test that more members pass
 any_more : {X : Type 0} (p q : X → Bool) (xs : List X) → ((x : X) → p x ≡ true → q x ≡ true)

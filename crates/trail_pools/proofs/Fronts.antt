@@ -12,10 +12,10 @@ use Rattle.trail_state.specs.Choices.{is_on}
 use Rattle.trail_state.specs.Pairings.{HasSmallEnds}
 use Rattle.trail_state.proofs.Small.{n_small, p_small}
 use Rattle.open_gates.specs.Open.{fingers_at, fingers_beside}
-use Rattle.trail_pools.specs.declared.choice.PoolChoice.{PoolChoice}
+use Rattle.trail_halves.specs.declared.choice.OpenChoice.{OpenChoice}
 use Rattle.trail_pools.specs.Choices.{with_all, with_new}
 
-pub each_added : {X : Type 0} (f : X → List PoolChoice) (xs : List X) (i : ℕ) (d : X) (old now new : List PoolChoice) → i < length xs → now ≡ with_all old (flat_map f (take i xs)) → new ≡ with_all now (f (get_or xs i d)) → new ≡ with_all old (flat_map f (take (i + 1) xs))
+pub each_added : {X : Type 0} (f : X → List OpenChoice) (xs : List X) (i : ℕ) (d : X) (old now new : List OpenChoice) → i < length xs → now ≡ with_all old (flat_map f (take i xs)) → new ≡ with_all now (f (get_or xs i d)) → new ≡ with_all old (flat_map f (take (i + 1) xs))
 each_added f xs i d old now new within before is =
     let more : flat_map f (take (i + 1) xs) ≡ flat_map f (take i xs) ++ f (get_or xs i d) =
     ap (flat_map f) (take_more xs i d within) ∙ flat_map-append f (take i xs) (get_or xs i d ∷ []) ∙ ap (λ l. flat_map f (take i xs) ++ l) (append-nil (f (get_or xs i d))) in

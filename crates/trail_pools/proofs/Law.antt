@@ -11,11 +11,14 @@ use Rattle.row_model.specs.Gaps.{gaps_of}
 use Rattle.trail_state.specs.Levels.{IsOrder}
 use Rattle.trail_state.specs.declared.edge.Edge.{Edge}
 use Rattle.trail_state.specs.declared.edge.FingerEnds.{FingerEnds}
-use Rattle.trail_halves.specs.Open.{AreOpenChoices, ArePools, HasOpenChoices, OpenChoice, edges_in, halves_in}
+use Rattle.trail_halves.specs.declared.choice.OpenChoice.{OpenChoice}
+use Rattle.trail_halves.specs.Open.{AreOpenChoices, ArePools, HasOpenChoices, edges_in, halves_in}
 use Rattle.trail_halves.specs.Open.{open_ends}
 use Rattle.trail_halves.proofs.Opened.{open_choices}
-use Rattle.trail_pools.specs.Levels.{AreLevels, AreListed, IsListed, PoolEnds, PoolLevel, ends_along}
-use Rattle.trail_pools.specs.State.{PoolState, ends_after, start, state_after}
+use Rattle.trail_pools.specs.declared.level.PoolLevel.{PoolLevel}
+use Rattle.trail_pools.specs.Levels.{AreLevels, AreListed, IsListed, PoolEnds, ends_along}
+use Rattle.trail_pools.specs.declared.state.PoolState.{PoolState}
+use Rattle.trail_pools.specs.State.{ends_after, start, state_after}
 use Rattle.trail_pools.proofs.Along.{along_order}
 use Rattle.trail_pools.proofs.Ends.{half_ends_same}
 

@@ -21,3 +21,7 @@ pub mod Beside
 pub mod Halved
 pub mod Standing
 pub mod AllListed
+pub mod PoolNets
+pub mod NodesMet
+pub mod OpenFrom
+pub mod Leveled

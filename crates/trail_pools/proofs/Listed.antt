@@ -12,9 +12,11 @@ use Rattle.trail_state.specs.Levels.{IsGate}
 use Rattle.trail_state.specs.Places.{is_end, is_met}
 use Rattle.trail_state.specs.Settling.{is_open}
 use Rattle.trail_state.proofs.Law.{is_net_gate}
-use Rattle.trail_halves.specs.Open.{ArePools, IsOpenChoice, OpenChoice}
+use Rattle.trail_halves.specs.declared.choice.OpenChoice.{OpenChoice}
+use Rattle.trail_halves.specs.Open.{ArePools, IsOpenChoice}
 use Rattle.trail_pools.specs.Levels.{AreFewer, AreLevels, ArePlaces, IsLevel, IsOpenEdge, IsOpenHalf, IsOpenNode}
-use Rattle.trail_pools.specs.Levels.{MeetsOpen, PoolLevel, first_open}
+use Rattle.trail_pools.specs.declared.level.PoolLevel.{PoolLevel}
+use Rattle.trail_pools.specs.Levels.{MeetsOpen, first_open}
 use Rattle.trail_pools.specs.Meeting.{AreOpenLevels, IsOpenLevel, any_ends_free, any_meets, ends_free, meets_node}
 use Rattle.trail_pools.specs.Meeting.{open_from}
 use Rattle.trail_pools.proofs.Computed.{are_fewer, are_places, free_place, node_open, none_left}

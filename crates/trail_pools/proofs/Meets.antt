@@ -24,7 +24,8 @@ use Rattle.trail_state.specs.Places.{is_end, is_met}
 use Rattle.trail_state.proofs.Members.{Passes, passes_from}
 use Rattle.trail_state.proofs.Opened.{Beside, beside, met_can}
 use Rattle.open_gates.specs.Open.{fingers_at, fingers_beside}
-use Rattle.trail_halves.specs.Open.{ArePools, IsHalfOpen, IsOpenChoice, OpenChoice, half_in, is_filled, row_of}
+use Rattle.trail_halves.specs.declared.choice.OpenChoice.{OpenChoice}
+use Rattle.trail_halves.specs.Open.{ArePools, IsHalfOpen, IsOpenChoice, half_in, is_filled, row_of}
 use Rattle.trail_halves.proofs.Parted.{Alone, alone_in, on_row, other_row, stands_there}
 use Rattle.trail_pools.specs.Meeting.{ends_free, meets_node, net_beside, stays_open}
 use Rattle.trail_pools.proofs.Columns.{fewer, full_beside, on_net}

@@ -48,7 +48,7 @@ odd_is es ds v same =
     ap parity (sym (degree_is es v)) ∙ sym (parity_is (degree es v))
     ∙ ap (λ k. k % 2 == 1) (sym (sum_by-IsPermutation (meets v) es ds same))
 
-parity_sum : (a b : ℕ) → ((a + b) % 2 == 1) ≡ differ (a % 2 == 1) (b % 2 == 1)
+pub parity_sum : (a b : ℕ) → ((a + b) % 2 == 1) ≡ differ (a % 2 == 1) (b % 2 == 1)
 parity_sum a b = elim (cases_eq (a % 2) 1) [
   | inl x ↦ sym (ap (λ p. differ p (b % 2 == 1)) (eq-eqb (a % 2) 1 x) ∙ odd_first x)
   | inr x ↦ sym (ap (λ p. differ p (b % 2 == 1)) (ne_eqb (a % 2) 1 x) ∙ even_first x)

@@ -5,7 +5,8 @@ use Rattle.trail_state.specs.declared.edge.Edge.{Edge}
 use Rattle.trail_state.specs.declared.edge.FingerEnds.{FingerEnds}
 use Rattle.trail_state.proofs.Follows.{Follows}
 use Rattle.trail_halves.specs.Halves.{AreBelow, links, place_ends}
-use Rattle.trail_pools.specs.State.{OpenPlaces, PoolState}
+use Rattle.trail_pools.specs.declared.level.OpenPlaces.{OpenPlaces}
+use Rattle.trail_pools.specs.declared.state.PoolState.{PoolState}
 use Rattle.trail_pools.proofs.Counted.{settled}
 use Rattle.trail_pools.proofs.Held.{Held}
 use Rattle.trail_pools.proofs.Tracks.{Tracks}

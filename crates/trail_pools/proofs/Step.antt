@@ -18,10 +18,12 @@ use Rattle.trail_state.proofs.Settles.{of_closing}
 use Rattle.open_gates.specs.Merged.{net_in}
 use Rattle.trail_check.specs.Graph.{is_odd}
 use Rattle.trail_halves.specs.Halves.{AreBelow, free, links, node_ends, place_ends, place_of, pool_ends, short, waiting}
-use Rattle.trail_halves.specs.Open.{OpenChoice}
+use Rattle.trail_halves.specs.declared.choice.OpenChoice.{OpenChoice}
 use Rattle.trail_halves.proofs.Pools.{placed_out}
 use Rattle.trail_pools.specs.Levels.{AreFewer, ArePlaces, IsOpenEdge, IsOpenHalf, MeetsOpen}
-use Rattle.trail_pools.specs.State.{OpenPlaces, PoolState, balance_after, ends_after, ends_at, joined_places}
+use Rattle.trail_pools.specs.declared.level.OpenPlaces.{OpenPlaces}
+use Rattle.trail_pools.specs.declared.state.PoolState.{PoolState}
+use Rattle.trail_pools.specs.State.{balance_after, ends_after, ends_at, joined_places}
 use Rattle.trail_pools.specs.State.{pool_closing, state_after}
 use Rattle.trail_pools.proofs.Apart.{all_waiting, links_open, no_free, node_apart, not_odd, place_open, pool_apart}
 use Rattle.trail_pools.proofs.Apart.{short_odd}
@@ -232,10 +234,7 @@ module _ (n : ℕ) (r : Row) (pool : ℕ → Bool) where
           follows =
               settles new_all now.places next.places t t_follows fewer.places (ends_at n r pool next s c) ends
               closing_ends t_held;
-          tracked =
-              tracks n r pool edges halves now next s h.tracked c fewer shut_even
-              (λ k free. let high : n + k < 2 * n = (place_open n r pool next next_places (n + k) free).0 in
-              omega (arith, high));
+          tracked = tracks n r pool edges halves now next s h.tracked c fewer shut_even;
           held =
               still_held new_all now.places next.places t t_follows fewer.places (ends_at n r pool next s c) ends
               closing_ends t_held;

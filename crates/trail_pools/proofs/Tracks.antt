@@ -1,27 +1,33 @@
 -- The odd nodes and the balances of a state are those of all edges and half edges so far.
 use Rattle.std.proofs.Common.{ℕ, zero, suc, ◌≡◌, ◌+◌, ◌-◌, ◌%◌, ◌<◌, ◌==◌, ◌&&◌, Bool, true, false, not, if◌then◌else◌}
-use Rattle.std.proofs.Common.{leb, List, [], ◌∷◌, ◌++◌, Some, map, refl, sym, ap, arith, ◌∙◌, inl, inr, ◌⊎◌, Contains}
-use Rattle.std.proofs.Common.{unwrap_or}
+use Rattle.std.proofs.Common.{leb, List, [], ◌∷◌, ◌++◌, Some, map, refl, sym, ap, subst, arith, ◌∙◌, inl, inr, ◌⊎◌}
+use Rattle.std.proofs.Common.{Contains, unwrap_or}
 use Rattle.std.specs.List.{filter, find, range_with_len}
-use Rattle.std.proofs.lemmas.Bool.{and_right, both_ways, cases_Bool, cases_eq, eq-eqb, false_from_ne_true, leb-false}
-use Rattle.std.proofs.lemmas.Bool.{leb-true, ne_eqb}
+use Rattle.std.proofs.lemmas.Bool.{and_right, both_ways, cases_Bool, cases_eq, eq-eqb, eqb-true, false_from_ne_true}
+use Rattle.std.proofs.lemmas.Bool.{le-leb, leb-false, leb-true, ne_eqb}
 use Rattle.std.proofs.lemmas.List.Sums.{sum_by-append}
 use Rattle.cell_num.specs.declared.finger.Row.{Row}
+use Rattle.cell_num.proofs.In.{contains_map}
 use Rattle.cell_num.proofs.Lists.{contains_cons, contains_none}
+use Rattle.cell_num.proofs.Pairs.{Some', test_finds}
 use Rattle.row_trails.specs.Trails.{size}
 use Rattle.trail_state.specs.declared.edge.Edge.{Edge}
 use Rattle.trail_state.specs.declared.edge.FingerEnds.{FingerEnds}
+use Rattle.trail_state.specs.declared.edge.Node.{Node}
 use Rattle.trail_state.specs.Places.{differ, node_at}
 use Rattle.trail_state.specs.Settling.{is_open}
 use Rattle.trail_state.proofs.Members.{passes_to}
-use Rattle.trail_state.proofs.Opened.{nodes_are, nodes_have, range_has}
+use Rattle.trail_state.proofs.Opened.{nodes_are, nodes_have}
 use Rattle.open_gates.specs.Merged.{net_in}
 use Rattle.trail_check.specs.Graph.{is_odd}
 use Rattle.trail_halves.specs.Halves.{free, short}
-use Rattle.trail_halves.specs.Open.{OpenChoice}
+use Rattle.trail_halves.specs.declared.choice.OpenChoice.{OpenChoice}
 use Rattle.trail_pools.specs.Levels.{AreFewer}
-use Rattle.trail_pools.specs.State.{Balance, OpenPlaces, PoolState, balance_after, balance_in, balances_left}
-use Rattle.trail_pools.specs.State.{is_odd_after, no_balance, odd_closing, odd_left, state_after}
+use Rattle.trail_pools.specs.declared.level.OpenPlaces.{OpenPlaces}
+use Rattle.trail_pools.specs.declared.state.PoolState.{PoolState}
+use Rattle.trail_pools.specs.declared.state.Balance.{Balance}
+use Rattle.trail_pools.specs.State.{balance_after, balance_in, balances_left}
+use Rattle.trail_pools.specs.State.{is_odd_after, no_balance, odd_closing, odd_left, open_pools, state_after}
 use Rattle.trail_pools.proofs.Placed.{odd_append}
 
 abbrev bit : Bool → ℕ
@@ -62,6 +68,18 @@ kept_balance mk named (x ∷ xs) net c = elim (cases_eq x net) [
     off : ((mk x).net == net) ≡ false → find (λ (b : Balance). b.net == net) (mk x ∷ map mk xs)
         ≡ find (λ (b : Balance). b.net == net) (map mk xs)
     off e = rw e refl
+
+-- the net of an open pool is among those
+is_pool_open : (n : ℕ) (places : List Node) (net : ℕ) → is_open places (n + net) ≡ true
+    → Contains (open_pools n places) net
+is_pool_open n places net free =
+    let s : Some' (λ (w : Node). (w.0 == n + net) ≡ true) places =
+    test_finds (λ (w : Node). w.0 == n + net) places free in
+    let at : s.it.0 ≡ n + net = eqb-true s.it.0 (n + net) s.holds in
+    let back : s.it.0 - n ≡ net = omega (arith, at) in
+    subst (Contains (open_pools n places)) back
+    (contains_map (λ (w : Node). w.0 - n) (filter (λ (w : Node). leb n w.0) places) s.it
+    (passes_to (λ (w : Node). leb n w.0) places s.it s.there (le-leb n s.it.0 (omega (arith, at)))))
 
 -- equal differences are short of equally many
 pub short_same : (w f o d : ℕ) → w + d ≡ f + o → short w f ≡ short o d
@@ -226,16 +244,13 @@ module _ (n : ℕ) (r : Row) (pool : ℕ → Bool) where
             c.halves,
       )
 
-      pub tracks : ((net : ℕ) → is_open next.places (n + net) ≡ true → net < n)
-          → Tracks all_edges all_halves next (state_after n r pool next s c now)
-      tracks below = record {
+      pub tracks : Tracks all_edges all_halves next (state_after n r pool next s c now)
+      tracks = record {
         odd = odd_after;
         balance = λ net free_next is.
             let found : balance_in (balances_left n r pool next s c) net ≡ balance_after n r pool next s c net =
-            kept_balance (balance_after n r pool next s c) (λ k. refl)
-            (filter (λ k. is_open next.places (n + k)) (range_with_len 0 n)) net
-            (passes_to (λ k. is_open next.places (n + k)) (range_with_len 0 n) net
-            (range_has n net (below net free_next)) free_next) in
+            kept_balance (balance_after n r pool next s c) (λ k. refl) (open_pools n next.places) net
+            (is_pool_open n next.places net free_next) in
             ap (λ (b : Balance). b.waiting + free all_halves net) found
             ∙ balance_is net (fewer.places (n + net) free_next) is
             ∙ ap (λ (b : Balance). b.free + odd_shut all_edges next net) (sym found);

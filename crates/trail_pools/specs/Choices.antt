@@ -1,6 +1,5 @@
 -- The open choices of a gate as a list, found finger by finger.
-use Rattle.std.specs.Prelude.{ℕ, ◌&&◌, Bool, if◌then◌else◌, List, [], ◌∷◌, ◌++◌, fold, map}
-use Rattle.std.specs.Cmp.Lexicographic.{pointwise}
+use Rattle.std.specs.Prelude.{ℕ, Bool, if◌then◌else◌, List, [], ◌∷◌, ◌++◌, fold, map}
 use Rattle.std.specs.List.{filter, flat_map, list_any}
 use Rattle.cell_num.specs.declared.finger.Finger.{Finger}
 use Rattle.cell_num.specs.declared.finger.Fingers.{Fingers}
@@ -10,26 +9,19 @@ use Rattle.trail_state.specs.declared.edge.Edge.{Edge}
 use Rattle.trail_state.specs.declared.edge.FingerEnds.{FingerEnds}
 use Rattle.trail_state.specs.Choices.{is_on}
 use Rattle.trail_state.specs.Edges.{pair_edges}
-use Rattle.trail_state.specs.Fronts.{same_edge, same_nets, without}
+use Rattle.trail_state.specs.Fronts.{without}
 use Rattle.trail_state.specs.Pairings.{choices_of, nets_at}
 use Rattle.trail_state.specs.Sorted.{inserted}
 use Rattle.open_gates.specs.Open.{fingers_at, fingers_beside}
-use Rattle.trail_halves.specs.Open.{OpenChoice}
-use Rattle.trail_pools.specs.declared.choice.PoolChoice.{PoolChoice}
+use Rattle.trail_halves.specs.declared.choice.OpenChoice.{OpenChoice}
+use Rattle.trail_halves.specs.Same.{is_same}
 use Rattle.trail_pools.specs.Meeting.{stays_open}
 
--- the same edges and half edges
-abbrev pub open_choice : PoolChoice → OpenChoice
-open_choice c = record { edges = c.edges; halves = c.halves }
-
-abbrev pub is_same : PoolChoice → PoolChoice → Bool
-is_same c d = pointwise same_edge c.edges d.edges && pointwise same_nets c.halves d.halves
-
 -- each choice once
-abbrev pub with_new : List PoolChoice → PoolChoice → List PoolChoice
+abbrev pub with_new : List OpenChoice → OpenChoice → List OpenChoice
 with_new choices c = if list_any (is_same c) choices then choices else choices ++ c ∷ []
 
-abbrev pub with_all : List PoolChoice → List PoolChoice → List PoolChoice
+abbrev pub with_all : List OpenChoice → List OpenChoice → List OpenChoice
 with_all choices more = fold with_new choices more
 
 -- a column of a finger of the row and one of the other row: turned alike, or not
@@ -38,26 +30,26 @@ column_edges P x y = pair_edges x y
 column_edges N x y = pair_edges y x
 
 -- the choice with one of the edges more, and these half edges left
-abbrev pub with_column : PoolChoice → List FingerEnds → List Edge → List PoolChoice
+abbrev pub with_column : OpenChoice → List FingerEnds → List Edge → List OpenChoice
 with_column c halves edges = map (λ e. record { edges = inserted e c.edges; halves = halves }) edges
 
 -- a finger of the other row comes beside this one of the half edges
-abbrev pub beside_one : Row → FingerEnds → PoolChoice → FingerEnds → List PoolChoice
+abbrev pub beside_one : Row → FingerEnds → OpenChoice → FingerEnds → List OpenChoice
 beside_one r y c x = with_column c (without x c.halves) (column_edges r x y)
 
 -- or beside each of them
-abbrev pub beside : Row → FingerEnds → PoolChoice → List PoolChoice
+abbrev pub beside : Row → FingerEnds → OpenChoice → List OpenChoice
 beside r y c = flat_map (beside_one r y c) c.halves
 
-abbrev pub next_front : Row → List PoolChoice → FingerEnds → List PoolChoice
+abbrev pub next_front : Row → List OpenChoice → FingerEnds → List OpenChoice
 next_front r front y = fold (λ choices c. with_all choices (beside r y c)) [] front
 
 -- all fingers of the row alone
-abbrev pub first_front : List FingerEnds → List PoolChoice
+abbrev pub first_front : List FingerEnds → List OpenChoice
 first_front xs = record { edges = []; halves = xs } ∷ []
 
 -- the fingers of the row, with those of the other row beside some of them: each way once
-abbrev pub front_of : Row → List FingerEnds → List FingerEnds → List PoolChoice
+abbrev pub front_of : Row → List FingerEnds → List FingerEnds → List OpenChoice
 front_of r xs ys = fold (next_front r) (first_front xs) ys
 
 -- the fingers on the gate by the nets at their ends
@@ -65,11 +57,11 @@ abbrev pub ends_on : ℕ → List Finger → List FingerEnds
 ends_on gate fingers = map nets_at (filter (is_on gate) fingers)
 
 -- the choice of a gate whose half columns are filled
-abbrev pub filled_choice : List Edge → PoolChoice
+abbrev pub filled_choice : List Edge → OpenChoice
 filled_choice edges = record { edges = edges; halves = [] }
 
 -- every open choice of the gate, once
-unfoldable pub open_choices_of : Fingers → Row → (ℕ → Bool) → ℕ → List PoolChoice
+unfoldable pub open_choices_of : Fingers → Row → (ℕ → Bool) → ℕ → List OpenChoice
 open_choices_of f r counted gate =
     if stays_open f r counted gate
     then front_of r (ends_on gate (fingers_at r f)) (ends_on gate (fingers_beside r f))

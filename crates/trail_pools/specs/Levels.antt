@@ -11,14 +11,12 @@ use Rattle.trail_state.specs.declared.edge.FingerEnds.{FingerEnds}
 use Rattle.trail_state.specs.Settling.{is_open}
 use Rattle.open_gates.specs.Merged.{net_in}
 use Rattle.trail_halves.specs.Halves.{place_of}
-use Rattle.trail_halves.specs.Open.{IsOpenChoice, OpenChoice}
-use Rattle.trail_pools.specs.State.{OpenPlaces, PoolState, ends_after, state_after}
-
--- a gate with what it and later gates can meet, and with what later gates can
-pub record PoolLevel : Type 0 where
-  pub now : OpenPlaces
-  pub next : OpenPlaces
-  pub choices : List OpenChoice
+use Rattle.trail_halves.specs.declared.choice.OpenChoice.{OpenChoice}
+use Rattle.trail_halves.specs.Open.{IsOpenChoice}
+use Rattle.trail_pools.specs.declared.level.OpenPlaces.{OpenPlaces}
+use Rattle.trail_pools.specs.declared.level.PoolLevel.{PoolLevel}
+use Rattle.trail_pools.specs.declared.state.PoolState.{PoolState}
+use Rattle.trail_pools.specs.State.{ends_after, state_after}
 
 abbrev pub none_open : OpenPlaces
 none_open = record { places = []; nodes = [] }

@@ -3,5 +3,7 @@ pub mod State
 pub mod Levels
 pub mod Meeting
 pub mod Choices
--- What these use. In `Same` are proofs too, which the trait `Hash` requires here.
-pub mod Same
+pub mod Leveled
+pub mod Numbered
+-- What inner contracts cite.
+pub mod NodesMet

@@ -11,9 +11,11 @@ use Rattle.trail_state.specs.Nodes.{can_meet, is_net_on}
 use Rattle.trail_state.specs.Places.{node_at}
 use Rattle.open_gates.specs.Merged.{net_in}
 use Rattle.open_gates.specs.Open.{fingers_at, fingers_beside}
-use Rattle.trail_halves.specs.Open.{IsOpenChoice, OpenChoice}
-use Rattle.trail_pools.specs.Levels.{IsListed, PoolLevel}
-use Rattle.trail_pools.specs.State.{OpenPlaces}
+use Rattle.trail_halves.specs.declared.choice.OpenChoice.{OpenChoice}
+use Rattle.trail_halves.specs.Open.{IsOpenChoice}
+use Rattle.trail_pools.specs.declared.level.PoolLevel.{PoolLevel}
+use Rattle.trail_pools.specs.Levels.{IsListed}
+use Rattle.trail_pools.specs.declared.level.OpenPlaces.{OpenPlaces}
 
 -- the node's net in the other row
 abbrev pub net_beside : Row → ℕ → ℕ

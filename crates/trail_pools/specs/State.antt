@@ -1,7 +1,7 @@
 -- States along an order of gates whose half columns stay open: places with their classes, odd nodes of pools, and the
 -- balance of each pool.
-use Rattle.std.specs.Prelude.{ℕ, ◌+◌, ◌-◌, ◌*◌, ◌==◌, ◌&&◌, ◌||◌, Bool, not, if◌then◌else◌, ltb, List, [], map}
-use Rattle.std.specs.Prelude.{count_by, find, sum_by, unwrap_or}
+use Rattle.std.specs.Prelude.{ℕ, ◌+◌, ◌-◌, ◌*◌, ◌==◌, ◌&&◌, ◌||◌, Bool, not, if◌then◌else◌, leb, ltb, List}
+use Rattle.std.specs.Prelude.{[], map, count_by, find, sum_by, unwrap_or}
 use Rattle.std.specs.List.{filter, list_any, range_with_len}
 use Rattle.cell_num.specs.declared.finger.Row.{Row}
 use Rattle.row_trails.specs.Trails.{size}
@@ -12,27 +12,12 @@ use Rattle.trail_state.specs.Settling.{closing_of, has_class, is_open, kept_of, 
 use Rattle.open_gates.specs.Merged.{net_in}
 use Rattle.trail_check.specs.Graph.{is_odd}
 use Rattle.trail_halves.specs.Halves.{free, links, short}
-use Rattle.trail_halves.specs.Open.{OpenChoice}
+use Rattle.trail_halves.specs.declared.choice.OpenChoice.{OpenChoice}
+use Rattle.trail_pools.specs.declared.level.OpenPlaces.{OpenPlaces}
+use Rattle.trail_pools.specs.declared.state.Balance.{Balance}
+use Rattle.trail_pools.specs.declared.state.PoolState.{PoolState}
 
--- What some gates can still meet: places (nodes in no pool, and pools), and the nodes of these pools.
-pub record OpenPlaces : Type 0 where
-  pub places : List Node
-  pub nodes : List Node
-
--- Of a pool whose net this is: its odd nodes that no later gate can meet, less its free ends so far. One of the two
--- numbers is 0.
-pub record Balance : Type 0 where
-  pub net : ℕ
-  pub waiting : ℕ
-  pub free : ℕ
-
--- The state after the first gates: the open places that they meet, with their classes, the open nodes of pools that are
--- odd, and the balance of each open pool.
-pub record PoolState : Type 0 where
-  pub places : List Place
-  pub odd : List Node
-  pub balances : List Balance
-
+-- the state before the first gate
 abbrev pub start : PoolState
 start = record { places = []; odd = []; balances = [] }
 
@@ -45,6 +30,10 @@ balance_in balances net = unwrap_or (find (λ (b : Balance). b.net == net) balan
 -- the lesser number is taken from both
 abbrev pub balanced : ℕ → ℕ → ℕ → Balance
 balanced net waiting free = record { net = net; waiting = waiting - free; free = free - waiting }
+
+-- the nets of the pools among some places, where nodes are below n
+abbrev pub open_pools : ℕ → List Node → List ℕ
+open_pools n places = map (λ (p : Node). p.0 - n) (filter (λ (p : Node). leb n p.0) places)
 
 -- places that close, by the ends at each of them
 module _ (ends : Place → ℕ) where
@@ -100,7 +89,7 @@ module _ (n : ℕ) (r : Row) (pool : ℕ → Bool) (next : OpenPlaces) (state : 
   odd_left = map node_at (filter (λ v. is_odd_after v && is_open next.nodes v) (range_with_len 0 n))
 
   abbrev pub balances_left : List Balance
-  balances_left = map balance_after (filter (λ net. is_open next.places (n + net)) (range_with_len 0 n))
+  balances_left = map balance_after (open_pools n next.places)
 
   module _ (now : OpenPlaces) where
     -- the places of the state with the choice's edges and half edges

@@ -5,12 +5,13 @@ ghost use Rattle.trail_state.specs.Pairings.{choices_of};
 ghost use Rattle.trail_pools.specs.Choices.{ends_on, filled_choice, front_of, open_choices_of};
 ghost use Rattle.trail_pools.specs.Meeting.{stays_open};
 
-use crate::choice::PoolChoice;
-use crate::fingers::{ends_on, fingers_at, fingers_beside};
+use crate::fingers::ends_on;
 use crate::front::front_of;
 use cell_num::{Fingers, List, NetNo, NoMemory, Row};
+use open_gates::gates::{fingers_at, fingers_beside};
 use open_gates::{OpenGates, has_more};
 use std::alloc::Global;
+use trail_halves::OpenChoice;
 use trail_state::{Choice, choices};
 
 /// Whether the gate has half columns in the counted row, and they stay open.
@@ -20,16 +21,16 @@ pub fn stays_open(fingers: &Fingers, counted: &OpenGates, gate: NetNo) -> bool
     counted.has(gate.0) && has_more(counted.row, fingers, &gate)
 }
 
-fn copy(choice: &PoolChoice) -> Result<PoolChoice, NoMemory>
+fn copy(choice: &OpenChoice) -> Result<OpenChoice, NoMemory>
     ensures { IfOk result (λ it. it ≡ choice.now) }
 {
-    Ok(PoolChoice {
+    Ok(OpenChoice {
         edges: choice.edges.clone()?,
         halves: choice.halves.clone()?,
     })
 }
 
-fn copy_all(alloc: Global, front: &[PoolChoice]) -> Result<List<PoolChoice>, NoMemory>
+fn copy_all(alloc: Global, front: &[OpenChoice]) -> Result<List<OpenChoice>, NoMemory>
     ensures { IfOk result (λ all. all ≡ front.now) }
 {
     let mut all = List::new(alloc);
@@ -39,16 +40,16 @@ fn copy_all(alloc: Global, front: &[PoolChoice]) -> Result<List<PoolChoice>, NoM
     Ok(all)
 }
 
-fn fill(alloc: Global, edges: &Choice) -> Result<PoolChoice, NoMemory>
+fn fill(alloc: Global, edges: &Choice) -> Result<OpenChoice, NoMemory>
     ensures { IfOk result (λ it. it ≡ filled_choice edges.now) }
 {
-    Ok(PoolChoice {
+    Ok(OpenChoice {
         edges: edges.clone()?,
         halves: List::new(alloc),
     })
 }
 
-fn fill_all(alloc: Global, lists: &[Choice]) -> Result<List<PoolChoice>, NoMemory>
+fn fill_all(alloc: Global, lists: &[Choice]) -> Result<List<OpenChoice>, NoMemory>
     ensures { IfOk result (λ all. all ≡ map filled_choice lists.now) }
 {
     let mut all = List::new(alloc);
@@ -58,7 +59,7 @@ fn fill_all(alloc: Global, lists: &[Choice]) -> Result<List<PoolChoice>, NoMemor
     Ok(all)
 }
 
-fn filled(alloc: Global, fingers: &Fingers, gate: NetNo) -> Result<List<PoolChoice>, NoMemory>
+fn filled(alloc: Global, fingers: &Fingers, gate: NetNo) -> Result<List<OpenChoice>, NoMemory>
     requires { AreFingers fingers.now }
     ensures { IfOk result (λ all. all ≡ map filled_choice (choices_of fingers.now gate.0)) }
 {
@@ -72,7 +73,7 @@ fn half_open(
     fingers: &Fingers,
     row: Row,
     gate: NetNo,
-) -> Result<List<PoolChoice>, NoMemory>
+) -> Result<List<OpenChoice>, NoMemory>
     requires { AreFingers fingers.now }
     ensures { IfOk result (λ all. all ≡ front_of row (ends_on gate.0 (fingers_at row fingers.now))
         (ends_on gate.0 (fingers_beside row fingers.now))) }
@@ -92,7 +93,7 @@ pub fn open_choices(
     fingers: &Fingers,
     counted: &OpenGates,
     gate: NetNo,
-) -> Result<List<PoolChoice>, NoMemory>
+) -> Result<List<OpenChoice>, NoMemory>
     requires { AreFingers fingers.now }
     ensures { IfOk result (λ all. all ≡
         open_choices_of fingers.now counted.now.row (is_left_open counted.now) gate.0) }

@@ -2,15 +2,16 @@ ghost use Rattle.std.specs.Prelude.{◌≡◌, IfOk, OnOk};
 ghost use Rattle.trail_pools.specs.Choices.{beside, beside_one, first_front, front_of, next_front, with_all};
 ghost use Rattle.trail_pools.specs.Choices.{with_column, with_new};
 
-use crate::choice::PoolChoice;
-use crate::fingers::{column_edges, without};
+use crate::fingers::column_edges;
 use cell_num::{List, NoMemory, Row};
 use indexmap::IndexSet;
 use std::alloc::Global;
+use trail_halves::OpenChoice;
 use trail_state::edge::FingerEnds;
+use trail_state::left::without;
 use trail_state::{Edge, insert};
 
-fn add(all: &mut IndexSet<PoolChoice>, choice: PoolChoice) -> Result<(), NoMemory>
+fn add(all: &mut IndexSet<OpenChoice>, choice: OpenChoice) -> Result<(), NoMemory>
     ensures { OnOk result (all.new.keys ≡ with_new all.old.keys choice) }
 {
     match all.insert_full(choice) {
@@ -22,15 +23,15 @@ fn add(all: &mut IndexSet<PoolChoice>, choice: PoolChoice) -> Result<(), NoMemor
 // Adds the choice with each of the edges, and these half edges left.
 fn add_column(
     alloc: Global,
-    all: &mut IndexSet<PoolChoice>,
-    choice: &PoolChoice,
+    all: &mut IndexSet<OpenChoice>,
+    choice: &OpenChoice,
     halves: &[FingerEnds],
     edges: &[Edge],
 ) -> Result<(), NoMemory>
     ensures { OnOk result (all.new.keys ≡ with_all all.old.keys (with_column choice.now halves.now edges.now)) }
 {
     for edge in edges {
-        let more = PoolChoice {
+        let more = OpenChoice {
             edges: insert(alloc, edge, choice.edges.as_slice())?,
             halves: List::from_vec(halves.to_vec(alloc)?),
         };
@@ -42,10 +43,10 @@ fn add_column(
 // Adds the choice with the finger of the other row beside this one of the half edges.
 fn add_one(
     alloc: Global,
-    all: &mut IndexSet<PoolChoice>,
+    all: &mut IndexSet<OpenChoice>,
     row: Row,
     y: FingerEnds,
-    choice: &PoolChoice,
+    choice: &OpenChoice,
     x: FingerEnds,
 ) -> Result<(), NoMemory>
     ensures { OnOk result (all.new.keys ≡ with_all all.old.keys (beside_one row y choice.now x)) }
@@ -64,10 +65,10 @@ fn add_one(
 #[tactic(auto, using(crate::proofs::Fronts::each_added))]
 fn add_beside(
     alloc: Global,
-    all: &mut IndexSet<PoolChoice>,
+    all: &mut IndexSet<OpenChoice>,
     row: Row,
     y: FingerEnds,
-    choice: &PoolChoice,
+    choice: &OpenChoice,
 ) -> Result<(), NoMemory>
     ensures { OnOk result (all.new.keys ≡ with_all all.old.keys (beside row y choice.now)) }
 {
@@ -77,11 +78,11 @@ fn add_beside(
     Ok(())
 }
 
-fn first_front(alloc: Global, xs: &[FingerEnds]) -> Result<IndexSet<PoolChoice>, NoMemory>
+fn first_front(alloc: Global, xs: &[FingerEnds]) -> Result<IndexSet<OpenChoice>, NoMemory>
     ensures { IfOk result (λ front. front.keys ≡ first_front xs.now) }
 {
     let mut front = IndexSet::new(alloc);
-    let choice = PoolChoice {
+    let choice = OpenChoice {
         edges: List::new(alloc),
         halves: List::from_vec(xs.to_vec(alloc)?),
     };
@@ -92,9 +93,9 @@ fn first_front(alloc: Global, xs: &[FingerEnds]) -> Result<IndexSet<PoolChoice>,
 fn next_front(
     alloc: Global,
     row: Row,
-    front: &[PoolChoice],
+    front: &[OpenChoice],
     y: FingerEnds,
-) -> Result<IndexSet<PoolChoice>, NoMemory>
+) -> Result<IndexSet<OpenChoice>, NoMemory>
     ensures { IfOk result (λ all. all.keys ≡ next_front row front.now y) }
 {
     let mut all = IndexSet::new(alloc);
@@ -110,7 +111,7 @@ pub(crate) fn front_of(
     row: Row,
     xs: &[FingerEnds],
     ys: &[FingerEnds],
-) -> Result<IndexSet<PoolChoice>, NoMemory>
+) -> Result<IndexSet<OpenChoice>, NoMemory>
     ensures { IfOk result (λ front. front.keys ≡ front_of row xs.now ys.now) }
 {
     let mut front = first_front(alloc, xs)?;

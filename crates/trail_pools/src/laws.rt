@@ -1,5 +1,5 @@
 // The calls do nothing: their contracts are the laws.
-ghost use Rattle.std.specs.Prelude.{◌+◌, ◌*◌, ◌<◌, ◌≤◌, ◌↔◌, ℕ, Bool, List, All, map};
+ghost use Rattle.std.specs.Prelude.{◌+◌, ◌*◌, ◌<◌, ◌≤◌, ◌↔◌, ℕ, Bool, List, All};
 ghost use Rattle.cell_num.specs.declared.finger.Fingers.{Fingers};
 ghost use Rattle.cell_num.specs.declared.finger.Row.{Row};
 ghost use Rattle.cell_num.specs.declared.net.NetNo.{NetNo};
@@ -8,9 +8,11 @@ ghost use Rattle.row_model.specs.declared.column.Column.{Column};
 ghost use Rattle.row_model.specs.Arrangement.{IsArrangement};
 ghost use Rattle.row_model.specs.Gaps.{gaps_of};
 ghost use Rattle.trail_state.specs.Levels.{IsGate, IsOrder};
-ghost use Rattle.trail_halves.specs.Open.{ArePools, IsOpenChoice, OpenChoice, open_ends};
-ghost use Rattle.trail_pools.specs.Choices.{open_choice, open_choices_of};
-ghost use Rattle.trail_pools.specs.Levels.{AreLevels, AreListed, IsListed, PoolEnds, PoolLevel, ends_along};
+ghost use Rattle.trail_halves.specs.declared.choice.OpenChoice.{OpenChoice};
+ghost use Rattle.trail_halves.specs.Open.{ArePools, IsOpenChoice, open_ends};
+ghost use Rattle.trail_pools.specs.Choices.{open_choices_of};
+ghost use Rattle.trail_pools.specs.declared.level.PoolLevel.{PoolLevel};
+ghost use Rattle.trail_pools.specs.Levels.{AreLevels, AreListed, IsListed, PoolEnds, ends_along};
 ghost use Rattle.trail_pools.specs.Meeting.{AreOpenLevels};
 ghost use Rattle.trail_pools.specs.State.{start};
 
@@ -44,5 +46,5 @@ pub fn pool_ends()
 pub fn all_open_choices()
     ensures { (f : Fingers) → AreFingers f → (r : Row) (counted : ℕ → Bool) (gate : ℕ) → gate < f.nets
         → (choice : OpenChoice) → IsOpenChoice f r counted gate choice
-        ↔ IsListed (map open_choice (open_choices_of f r counted gate)) choice }
+        ↔ IsListed (open_choices_of f r counted gate) choice }
 {}

@@ -1,12 +1,19 @@
-// Ends of trails along an order of gates where half columns stay open: laws, and the choices of a gate.
+// Ends of trails along an order of gates where half columns stay open: laws, and the levels of an order with the
+// choices of each gate.
 #![tactic(auto)]
 
-pub mod choice;
 mod choices;
 mod fingers;
 mod front;
 mod laws;
+pub mod level;
+mod nodes;
+mod places;
+pub mod pools;
+pub mod state;
 
-pub use choice::PoolChoice;
 pub use choices::{open_choices, stays_open};
 pub use laws::{all_open_choices, along_order, open_levels, pool_ends};
+pub use level::{OpenPlaces, PoolLevel, levels};
+pub use pools::Pools;
+pub use state::{Balance, PoolState};
