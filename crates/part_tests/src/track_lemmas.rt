@@ -4,7 +4,7 @@ ghost use Rattle.cell_num.specs.Fingers.{AreFingers};
 
 use crate::rows::{INVERTER, fingers};
 use cell_num::{Fingers, NetNo, NoMemory, Pins, copy};
-use row_state::{Kinds, Parity, kinds, start};
+use row_state::{Component, Kinds, kinds, start};
 use std::alloc::Global;
 use std::test::Fail;
 use track_check::{TracksRefused, check_tracks};
@@ -35,7 +35,7 @@ fn answer(alloc: Global, rows: &Fingers, limit: u32, gaps: &[u32]) -> Result<(),
     for gaps in gaps {
         lemmas.push(of_start(alloc, &kinds, *gaps)?)?;
     }
-    check_tracks(alloc, &Parity, &PINS, limit, &kinds, 0, &lemmas)
+    check_tracks(alloc, &Component, &PINS, limit, &kinds, 0, &lemmas)
 }
 
 #[test]
