@@ -2,13 +2,21 @@
 cycle of such pairs. Written from the meaning of the certificate's text; it shares no code with the program.
 
 A node line with a net in the P row and another one in the N row, neither of them a rail, asks for the pair of them: the
-P net has to be above the N net. Nets that are above each other in a cycle have no legal tracks.
+P net has to be above the N net. Nets that are above each other in a cycle have no legal tracks. How many further gaps a
+state needs at least is its exact need (`needs.py`).
 """
+import functools
 from collections import namedtuple
 
+from needs import Needs
 from tracks import Line, after, cost, lines_to
 
 CycleLemma = namedtuple("CycleLemma", "gaps state above")       # above: pairs of an upper and a lower net
+
+
+@functools.lru_cache(maxsize=8)
+def needs_of(cell):
+    return Needs(cell)
 
 
 def asked_at(cell, line):
@@ -49,9 +57,9 @@ def has_cycle(down):
 
 
 def is_refuted(cell, earlier, state, gaps, pairs):
-    """By the bound of a row, by a cycle that is there already, or by an earlier lemma; `earlier` is by state."""
+    """By the need of the state, by a cycle that is there already, or by an earlier lemma; `earlier` is by state."""
     down = below(pairs)
-    return (cell.bound(state) > gaps or has_cycle(down)
+    return (needs_of(cell).bound(state) > gaps or has_cycle(down)
             or any(lemma.gaps >= gaps and follow(down, lemma.above) for lemma in earlier.get(state, ())))
 
 
@@ -64,11 +72,11 @@ def next_states(cell, state, gaps, pairs):
 
 
 def is_justified(cell, earlier, lemma):
-    """Whether a lemma follows: by the bound of a row, or since each next column leads to what is refuted."""
+    """Whether a lemma follows: by the need of its state, or since each next column leads to what is refuted."""
     state, pairs = lemma.state, set(lemma.above)
     if not cell.is_state(state):
         return False
-    if cell.bound(state) > lemma.gaps:
+    if needs_of(cell).bound(state) > lemma.gaps:
         return True
     if not any(state.p + state.n):
         return has_cycle(below(pairs | asked_at_end(cell, state)))

@@ -1,6 +1,6 @@
 """The fewest tracks of all rows of a small cell, by listing all rows and trying tracks net by net: what the search of
-`tracks` is compared with. It goes by whole rows, not by states. Lemmas on cycles are compared with all completions of
-their states.
+`tracks` is compared with. It goes by whole rows, not by states. Lemmas on cycles and needs are compared with all
+completions of their states.
 """
 import functools
 import itertools
@@ -115,3 +115,19 @@ def asked_from(cell, state, gaps):
 def is_true(cell, lemma):
     """Whether each completion of a lemma on cycles has one, with at most so many further gaps."""
     return all(is_cyclic(pairs | set(lemma.above)) for pairs in asked_from(cell, lemma.state, lemma.gaps))
+
+
+def need_of(cell, state):
+    """The fewest further gaps of the completions of a state."""
+    return min(sum(gap for _, gap in row) for row in rows_of(cell, state, 63))
+
+
+def leftovers_of(cell):
+    """What the states have left of the fingers that columns lead to from the start."""
+    found, front = set(), [cell.start]
+    while front:
+        state = front.pop()
+        if state[:2] not in found:
+            found.add(state[:2])
+            front += (after(state, column) for column in cell.columns(state))
+    return found
