@@ -21,7 +21,11 @@ pub mod Beside
 pub mod Halved
 pub mod Standing
 pub mod AllListed
+pub mod Turned
 pub mod PoolNets
+pub mod Linked
+pub mod Balances
 pub mod NodesMet
 pub mod OpenFrom
 pub mod Leveled
+pub mod Stepped

@@ -5,5 +5,6 @@ pub mod Meeting
 pub mod Choices
 pub mod Leveled
 pub mod Numbered
--- What inner contracts cite.
+-- What inner contracts and proofs alone cite.
 pub mod NodesMet
+pub mod Stepping

@@ -1,8 +1,8 @@
 -- States along an order of gates whose half columns stay open: places with their classes, odd nodes of pools, and the
 -- balance of each pool.
-use Rattle.std.specs.Prelude.{ℕ, ◌+◌, ◌-◌, ◌*◌, ◌==◌, ◌&&◌, ◌||◌, Bool, not, if◌then◌else◌, leb, ltb, List}
+use Rattle.std.specs.Prelude.{ℕ, ◌+◌, ◌-◌, ◌*◌, ◌^◌, ◌==◌, ◌&&◌, ◌||◌, Bool, not, if◌then◌else◌, leb, ltb, List}
 use Rattle.std.specs.Prelude.{[], map, count_by, find, sum_by, unwrap_or}
-use Rattle.std.specs.List.{filter, list_any, range_with_len}
+use Rattle.std.specs.List.{filter, list_all, list_any, range_with_len}
 use Rattle.cell_num.specs.declared.finger.Row.{Row}
 use Rattle.row_trails.specs.Trails.{size}
 use Rattle.trail_state.specs.declared.edge.Node.{Node}
@@ -26,6 +26,13 @@ no_balance net = record { net = net; waiting = 0; free = 0 }
 
 abbrev pub balance_in : List Balance → ℕ → Balance
 balance_in balances net = unwrap_or (find (λ (b : Balance). b.net == net) balances) (no_balance net)
+
+-- both numbers are at most 2 ^ 31
+abbrev pub is_small : Balance → Bool
+is_small b = leb b.waiting (2 ^ 31) && leb b.free (2 ^ 31)
+
+abbrev pub are_small : PoolState → Bool
+are_small s = list_all is_small s.balances
 
 -- the lesser number is taken from both
 abbrev pub balanced : ℕ → ℕ → ℕ → Balance

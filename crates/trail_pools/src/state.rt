@@ -1,6 +1,6 @@
 ghost use Rattle.std.specs.Prelude.{◌≡◌, fold};
 ghost use Rattle.trail_pools.specs.Numbered.{state_number, with_balance, with_node};
-ghost use Rattle.trail_pools.specs.State.{start};
+ghost use Rattle.trail_pools.specs.State.{are_small, is_small, start};
 
 use cell_num::List;
 use std::alloc::Global;
@@ -25,6 +25,12 @@ pub struct PoolState {
     pub odd: List<Node>,
     /// One of each open pool.
     pub balances: List<Balance>,
+}
+
+fn is_small(balance: &Balance) -> bool
+    ensures { result ≡ is_small balance.now }
+{
+    balance.waiting <= 2_147_483_648 && balance.free <= 2_147_483_648
 }
 
 fn with_nodes(number: u64, nodes: &[Node]) -> u64
@@ -65,6 +71,16 @@ impl PoolState {
             odd: List::new(alloc),
             balances: List::new(alloc),
         }
+    }
+
+    /// Whether the two numbers of each balance are at most 2,147,483,648, as `after` asks.
+    pub fn are_small(&self) -> bool
+        ensures { result ≡ are_small self.now }
+    {
+        self.balances
+            .as_slice()
+            .iter()
+            .all(|balance| is_small(balance))
     }
 
     /// A number of the state after the first `done` gates, by which lemmas on it can be looked up. Other states may
