@@ -101,7 +101,7 @@ def lines_of(crate, module, name):
     kind, told = found.group(1), comment_before(text, found.start())
     if kind == "fn":
         shown = signature(text, found.start(2))
-        return [item_line("law" if shown == f"{name}()" else kind, shown, told)]
+        return [item_line("law" if re.fullmatch(r"\w+(<.*>)?\(\)", shown) else kind, shown, told)]
     shown = re.match(r"\w+(?: = [^;]*)?", text[found.start(2):]).group() if kind == "type" else name
     return [item_line(kind, shown, told)] + list(methods(crate, name, kind, text, found.end()))
 
