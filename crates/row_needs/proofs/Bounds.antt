@@ -7,7 +7,11 @@ use Rattle.std.proofs.lemmas.Bool.{cases_Bool, false≢true}
 use Rattle.std.proofs.lemmas.Bool.Decides.{Decides-ltb}
 use Rattle.cell_num.specs.declared.finger.Row.{Row}
 use Rattle.cell_num.specs.declared.finger.Row.TheVariants.{P, N}
+use Rattle.cell_num.specs.declared.net.NetNo.{NetNo}
 use Rattle.cell_num.proofs.Lists.{some_same}
+use Rattle.row_model.specs.declared.column.Column.{Column}
+use Rattle.row_model.specs.Gaps.{right_net}
+use Rattle.row_state.specs.declared.candidate.Candidate.{Candidate}
 use Rattle.row_state.specs.declared.kind.Kinds.{Kinds}
 use Rattle.row_state.specs.declared.state.State.{State}
 use Rattle.row_state.specs.Completion.{Need}
@@ -15,12 +19,13 @@ use Rattle.row_state.specs.Component.{component_value}
 use Rattle.row_state.specs.ComponentLaw.{component_holds}
 use Rattle.row_state.specs.Decoded.{rows_code}
 use Rattle.row_state.specs.Start.{AreSomeKinds, IsState}
+use Rattle.row_state.specs.Steps.{column_of, state_after}
 use Rattle.row_needs.specs.declared.needs.Needs.{Needs}
 use Rattle.row_needs.specs.declared.rest.Rest.{Rest}
 use Rattle.row_needs.specs.Above.{IsAboveGaps}
 use Rattle.row_needs.specs.Bound.{NeedBound, are_same_kinds, need_by, need_in, value_by}
 use Rattle.row_needs.specs.Need.{IsNeed}
-use Rattle.row_needs.specs.Rest.{AreRests, HasRest, need_at}
+use Rattle.row_needs.specs.Rest.{AreRests, HasRest, need_at, need_behind}
 use Rattle.row_needs.specs.Table.{AreLeast, HasTable}
 use Rattle.row_needs.proofs.Rests.{need_is}
 use Rattle.row_needs.proofs.SameKinds.{kinds_decide}
@@ -47,6 +52,13 @@ read_there k needs s number is = subst (λ n. IfSome (option_map (need_at s) (ge
 
 pub read_none : (k : Kinds) (needs : Needs) (s : State) (number : ℕ) → number ≡ rows_code k s → IfNone (option_map (need_at s) (get nat_eq needs.rests number)) (HasRest k needs s → ⊥)
 read_none k needs s number is = subst (λ n. IfNone (option_map (need_at s) (get nat_eq needs.rests number)) (IsSome (get nat_eq needs.rests n) → ⊥)) is (entry_none s (get nat_eq needs.rests number))
+
+-- the open ends behind a column are those of the state after it
+pub behind_is : (k : Kinds) (needs : Needs) (s : State) (c : Candidate) (number : ℕ) (p n : Option NetNo) → c.column ≡ column_of k c.step → p ≡ option_map right_net c.column.p → n ≡ option_map right_net c.column.n → option_map (need_behind p n) (get nat_eq needs.rests number) ≡ option_map (need_at (state_after k s c.step)) (get nat_eq needs.rests number)
+behind_is k needs s c number p n column p_is n_is =
+    ap (λ e. option_map (need_behind e n) (get nat_eq needs.rests number)) p_is
+    ∙ ap (λ e. option_map (need_behind (option_map right_net c.column.p) e) (get nat_eq needs.rests number)) n_is
+    ∙ ap (λ (z : Column). option_map (need_behind (option_map right_net z.p) (option_map right_net z.n)) (get nat_eq needs.rests number)) column
 
 rests_least : (k : Kinds) (needs : Needs) → AreRests k needs → AreLeast k needs
 rests_least k needs sound s rest valid there = ((need_is k s rest (sound s rest valid there).0).least, (sound s rest valid there).1)

@@ -1,3 +1,4 @@
+pub mod After
 pub mod Bounds
 pub mod Full
 pub mod Led

@@ -49,17 +49,17 @@ differ_place None x = refl
 differ_place (Some v) None = refl
 differ_place (Some v) (Some x) = refl
 
-first_is : (s : State) (row : List Column) → first_cost s row ≡ cond (is_apart s (left_ends row)) 1 0
+first_is : (s : State) (row : List Column) → first_cost s row ≡ cond (is_apart s.p_end s.n_end (left_ends row)) 1 0
 first_is s [] = rw (differ_none s.p_end, differ_none s.n_end) refl
 first_is s (c ∷ cs) = rw (differ_place s.p_end c.p, differ_place s.n_end c.n) refl
 
-apart_cost : (s : State) (row : List Column) (ends : LeftEnds) → left_ends row ≡ ends → first_cost s row ≡ cond (is_apart s ends) 1 0
-apart_cost s row ends is = first_is s row ∙ ap (λ e. cond (is_apart s e) 1 0) is
+apart_cost : (s : State) (row : List Column) (ends : LeftEnds) → left_ends row ≡ ends → first_cost s row ≡ cond (is_apart s.p_end s.n_end ends) 1 0
+apart_cost s row ends is = first_is s row ∙ ap (λ e. cond (is_apart s.p_end s.n_end e) 1 0) is
 
 -- ---- the need of a state by the rows of what it has left
 
 abbrev pub meets : State → LeftEnds → Bool
-meets s ends = not (is_apart s ends)
+meets s ends = not (is_apart s.p_end s.n_end ends)
 
 cost_one : (b : Bool) → cond b 1 0 ≤ 1
 cost_one true = omega arith
@@ -73,7 +73,7 @@ cost_left : (b : Bool) → not b ≡ false → 1 ≤ cond b 1 0
 cost_left true h = omega arith
 cost_left false h = absurd (true≢false h)
 
-further_is : (s : State) (row : List Column) → further_gaps s row ≡ cond (is_apart s (left_ends row)) 1 0 + gaps_of row
+further_is : (s : State) (row : List Column) → further_gaps s row ≡ cond (is_apart s.p_end s.n_end (left_ends row)) 1 0 + gaps_of row
 further_is s row = ap (λ n. n + gaps_of row) (first_is s row)
 
 none_meets : (s : State) (all : List LeftEnds) (ends : LeftEnds) → list_any (meets s) all ≡ false → Contains all ends → meets s ends ≡ false
@@ -104,7 +104,7 @@ need_met : (k : Kinds) (s : State) (rest : Rest) → IsRest (left_in k s) rest �
 need_met k s rest is met =
     let found : Some' (λ e. meets s e ≡ true) rest.starts = some_from_any (λ e. meets s e ≡ true) rest.starts (Any-from_list_any (meets s) rest.starts met) in
     let start : IsStart (left_in k s) rest.gaps found.it = All-contains (IsStart (left_in k s) rest.gaps) rest.starts found.it is.each found.there in
-    let free : cond (is_apart s (left_ends start.row)) 1 0 ≤ 0 = cost_met (is_apart s (left_ends start.row)) (subst (λ e. meets s e ≡ true) (sym start.begins) found.holds) in
+    let free : cond (is_apart s.p_end s.n_end (left_ends start.row)) 1 0 ≤ 0 = cost_met (is_apart s.p_end s.n_end (left_ends start.row)) (subst (λ e. meets s e ≡ true) (sym start.begins) found.holds) in
     record {
       least = λ row completes. omega (arith, is.least row completes, further_is s row);
       row = start.row;
@@ -116,7 +116,7 @@ need_met k s rest is met =
 need_row : (k : Kinds) (s : State) (rest : Rest) → IsRest (left_in k s) rest → list_any (meets s) rest.starts ≡ false → (row : List Column) → Completes k s row → rest.gaps + 1 ≤ further_gaps s row
 need_row k s rest is none row completes =
     elim (cases_eq (gaps_of row) rest.gaps) [
-      | inl same ↦ omega (arith, same, further_is s row, cost_left (is_apart s (left_ends row)) (none_meets s rest.starts (left_ends row) none (is.all row completes same)))
+      | inl same ↦ omega (arith, same, further_is s row, cost_left (is_apart s.p_end s.n_end (left_ends row)) (none_meets s rest.starts (left_ends row) none (is.all row completes same)))
       | inr more ↦ more_gaps (is.least row completes) more
     ]
   where
@@ -133,7 +133,7 @@ need_apart k s rest is none =
       least = need_row k s rest is none;
       row = first.1.row;
       completes = first.1.arranges;
-      reached = omega (arith, need_row k s rest is none first.1.row first.1.arranges, further_is s first.1.row, cost_one (is_apart s (left_ends first.1.row)), first.1.gaps_are);
+      reached = omega (arith, need_row k s rest is none first.1.row first.1.arranges, further_is s first.1.row, cost_one (is_apart s.p_end s.n_end (left_ends first.1.row)), first.1.gaps_are);
     }
 
 pub need_is : (k : Kinds) (s : State) (rest : Rest) → IsRest (left_in k s) rest → IsNeed k s (need_at s rest)

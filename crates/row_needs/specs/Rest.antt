@@ -37,9 +37,9 @@ abbrev pub differ : Option NetNo → Option NetNo → Bool
 differ (Some net) (Some other) = not (net.0 == other.0)
 differ _ _ = false
 
--- there is a gap between the last column of the state and the first one of a row with these ends
-abbrev pub is_apart : State → LeftEnds → Bool
-is_apart s ends = differ s.p_end ends.p || differ s.n_end ends.n
+-- there is a gap between a column with these open ends and the first one of a row with these left ends
+abbrev pub is_apart : Option NetNo → Option NetNo → LeftEnds → Bool
+is_apart p_end n_end ends = differ p_end ends.p || differ n_end ends.n
 
 -- ---- the rows with the fewest gaps
 
@@ -57,9 +57,14 @@ pub record IsRest (f : Fingers) (rest : Rest) : Type 0 where
   pub each : All (IsStart f rest.gaps) rest.starts
   pub some : 0 < length rest.starts
 
+-- the fewest gaps behind a column with these open ends, by the rows of what is left
+abbrev pub need_behind : Option NetNo → Option NetNo → Rest → ℕ
+need_behind p_end n_end rest =
+    if list_any (λ ends. not (is_apart p_end n_end ends)) rest.starts then rest.gaps else rest.gaps + 1
+
 -- the need of a state by the rows of what it has left
 abbrev pub need_at : State → Rest → ℕ
-need_at s rest = if list_any (λ ends. not (is_apart s ends)) rest.starts then rest.gaps else rest.gaps + 1
+need_at s rest = need_behind s.p_end s.n_end rest
 
 -- each entry of the table has the rows of what a state with its number has left
 abbrev pub AreRests : Kinds → Needs → Type 0

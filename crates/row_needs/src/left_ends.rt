@@ -1,4 +1,4 @@
-// The nets at the left end of a row, and whether a state's open ends meet them.
+// The nets at the left end of a row, and whether open ends meet them.
 ghost use Rattle.std.specs.Prelude.{◌≡◌, ◌↔◌, Contains, IsTrue};
 ghost use Rattle.std.specs.Option.{option_map};
 ghost use Rattle.row_model.specs.Gaps.{left_net};
@@ -6,7 +6,6 @@ ghost use Rattle.row_needs.specs.Rest.{differ, ends_before, is_apart, no_ends};
 
 use cell_num::{List, NetNo};
 use row_model::{Column, Placed};
-use row_state::State;
 
 /// The nets at the left end of a row: of its P and of its N finger. There is none of an empty place, and none where the
 /// row has no column.
@@ -55,11 +54,11 @@ impl LeftEnds {
         }
     }
 
-    /// Whether there is a gap between the last column of the state and the first one of a row with these ends.
-    pub(crate) fn is_apart(&self, state: &State) -> bool
-        ensures { result ≡ is_apart state.now self.now }
+    /// Whether there is a gap between a column with these open ends and the first one of a row with these left ends.
+    pub(crate) fn is_apart(&self, p_end: Option<NetNo>, n_end: Option<NetNo>) -> bool
+        ensures { result ≡ is_apart p_end n_end self.now }
     {
-        differ(state.p_end, self.p) || differ(state.n_end, self.n)
+        differ(p_end, self.p) || differ(n_end, self.n)
     }
 
     /// Whether they are among some.

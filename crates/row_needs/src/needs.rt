@@ -5,18 +5,20 @@ ghost use Rattle.row_state.specs.declared.kind.Kinds.{Kinds as KindsOf};
 ghost use Rattle.row_state.specs.Completion.{left_in};
 ghost use Rattle.std.specs.HashMap.{get, hash_map_len};
 ghost use Rattle.std.specs.Option.{option_map};
-ghost use Rattle.row_state.specs.Candidates.{AreCandidates, IsNumbered};
+ghost use Rattle.row_state.specs.Candidates.{AreCandidates, IsCandidate, IsNumbered};
 ghost use Rattle.row_state.specs.Start.{columns_left, start_of};
+ghost use Rattle.row_state.specs.Steps.{IsPossible, state_after};
 ghost use Rattle.row_needs.specs.declared.rest.Rest.{Rest as RestOf};
 ghost use Rattle.row_needs.specs.Best.{AddsBelow, IsBest, IsGrown};
 ghost use Rattle.row_needs.specs.Many.{IsLedTo, ManyRests};
 ghost use Rattle.row_needs.specs.Need.{IsNeed};
-ghost use Rattle.row_needs.specs.Rest.{AreRests, HasRest, IsClosed, IsRest, need_at};
+ghost use Rattle.row_needs.specs.Rest.{AreRests, HasRest, IsClosed, IsRest, need_at, need_behind};
 ghost use Rattle.row_needs.specs.Table.{AreLedTo};
 
 use crate::{LeftEnds, Rest};
-use cell_num::{Halt, NoMemory};
-use row_state::{Candidates, Kinds, Numbered, candidates, has_fingers, start};
+use cell_num::{Halt, NetNo, NoMemory};
+use row_state::{Candidate, Candidates, Kinds, Numbered, candidates, has_fingers, start};
+use row_trails::end_behind;
 use std::alloc::Global;
 use std::collections::HashMap;
 
@@ -69,13 +71,40 @@ impl Needs {
         }
     }
 
+    // The fewest gaps behind a column with these open ends, where the table has the rows of these counts.
+    fn read_behind(&self, counts: u64, p_end: Option<NetNo>, n_end: Option<NetNo>) -> Option<u32>
+        requires few { (rest : RestOf) → get nat_eq self.now.rests counts ≡ Some rest → rest.gaps ≤ 32 }
+        ensures { result ≡ option_map (need_behind p_end n_end) (get nat_eq self.now.rests counts) }
+    {
+        let rest = self.rests.get(&counts)?;
+        Some(rest.need_behind(p_end, n_end))
+    }
+
     /// The need of the state by the rows of what it has left, where the table has them.
     pub(crate) fn read(&self, at: &Numbered) -> Option<u32>
         requires few { (rest : RestOf) → get nat_eq self.now.rests at.now.counts ≡ Some rest → rest.gaps ≤ 32 }
         ensures { result ≡ option_map (need_at at.now.state) (get nat_eq self.now.rests at.now.counts) }
     {
-        let rest = self.rests.get(&at.counts)?;
-        Some(rest.need(&at.state))
+        self.read_behind(at.counts, at.state.p_end, at.state.n_end)
+    }
+
+    // The need of the state after the column, where the table has what it leaves. That state is not made.
+    fn after(&self, kinds: &Kinds, at: &Numbered, next: &Candidate) -> Option<u32>
+        requires numbered { IsNumbered kinds.now at.now }
+        requires next { IsCandidate kinds.now next.now }
+        requires step { IsPossible kinds.now at.now.state next.now.step }
+        requires sound { AreRests kinds.now self.now }
+        ensures need { IfSome result (IsNeed kinds.now (state_after kinds.now at.now.state next.now.step)) }
+        ensures here { IfSome result (λ _. HasRest kinds.now self.now
+            (state_after kinds.now at.now.state next.now.step)) }
+    {
+        kinds.show_limits();
+        let counts = at.counts - next.rows;
+        self.read_behind(
+            counts,
+            end_behind(&next.column.p),
+            end_behind(&next.column.n),
+        )
     }
 
     /// The need of the state, where the table has what it has left.
@@ -138,8 +167,13 @@ fn need(task: &Task, needs: &mut Needs, at: &Numbered) -> Result<u32, Halt>
         if !at.allows(task.kinds, next) {
             continue;
         }
-        let after = at.behind(task.alloc, task.kinds, next)?;
-        let gaps = need(task, needs, &after)?;
+        let gaps = match needs.after(task.kinds, at, next) {
+            Some(gaps) => gaps,
+            None => {
+                let after = at.behind(task.alloc, task.kinds, next)?;
+                need(task, needs, &after)?
+            }
+        };
         rest.take(task.alloc, gaps, LeftEnds::before(&next.column))?;
     }
     let rest = finished(task, at, rest)?;

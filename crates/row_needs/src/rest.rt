@@ -3,10 +3,10 @@ ghost use Rattle.std.specs.Prelude.{◌≡◌, ◌≤◌, ◌<◌, ◌⊎◌, []
 ghost use Rattle.std.specs.List.{list_any};
 ghost use Rattle.row_needs.specs.declared.left_ends.LeftEnds.{LeftEnds as EndsOf};
 ghost use Rattle.row_needs.specs.Best.{Takes};
-ghost use Rattle.row_needs.specs.Rest.{is_apart, need_at};
+ghost use Rattle.row_needs.specs.Rest.{is_apart, need_at, need_behind};
 
 use crate::{LeftEnds, LeftEndsList};
-use cell_num::NoMemory;
+use cell_num::{NetNo, NoMemory};
 use row_state::State;
 use std::alloc::Global;
 
@@ -69,14 +69,26 @@ impl Rest {
         Ok(())
     }
 
-    // Whether there is no gap between the last column of the state and the first one of some of the rows.
-    fn goes_on(&self, state: &State) -> bool
-        ensures { result ≡ list_any (λ e. not (is_apart state.now e)) self.now.starts }
+    // Whether there is no gap between a column with these open ends and the first one of some of the rows.
+    fn goes_on(&self, p_end: Option<NetNo>, n_end: Option<NetNo>) -> bool
+        ensures { result ≡ list_any (λ e. not (is_apart p_end n_end e)) self.now.starts }
     {
         self.starts
             .as_slice()
             .iter()
-            .any(|ends| !ends.is_apart(state))
+            .any(|ends| !ends.is_apart(p_end, n_end))
+    }
+
+    /// The fewest gaps behind a column with these open ends, where these are the rows of what is left.
+    pub(crate) fn need_behind(&self, p_end: Option<NetNo>, n_end: Option<NetNo>) -> u32
+        requires few { self.now.gaps ≤ 32 }
+        ensures { result ≡ need_behind p_end n_end self.now }
+    {
+        if self.goes_on(p_end, n_end) {
+            self.gaps
+        } else {
+            self.gaps + 1
+        }
     }
 
     /// The fewest further gaps of the state's completions, where these are the rows of what it has left.
@@ -84,10 +96,6 @@ impl Rest {
         requires few { self.now.gaps ≤ 32 }
         ensures { result ≡ need_at state.now self.now }
     {
-        if self.goes_on(state) {
-            self.gaps
-        } else {
-            self.gaps + 1
-        }
+        self.need_behind(state.p_end, state.n_end)
     }
 }

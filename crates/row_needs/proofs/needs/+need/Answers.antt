@@ -5,7 +5,7 @@ use Rattle.row_state.specs.declared.candidate.Candidate.{Candidate}
 use Rattle.row_state.specs.declared.state.State.{State}
 use Rattle.row_state.specs.Candidates.{AreCandidates, IsCandidate, IsNumbered}
 use Rattle.row_state.specs.Start.{columns_left}
-use Rattle.row_state.specs.Steps.{IsPossible, state_after}
+use Rattle.row_state.specs.Steps.{IsPossible}
 use Rattle.row_state.proofs.Calls.{fewer_after}
 use Rattle.row_needs.specs.Best.{HasNext}
 use Rattle.row_needs.specs.Many.{IsLedTo}
@@ -16,6 +16,8 @@ use Rattle.row_needs.proofs.Led.{led_more, led_on, many_rests}
 use Rattle.row_needs.proofs.Full.{below_add, below_on}
 use Rattle.row_needs.proofs.Rests.{best_more, best_past, need_is, not_both}
 use Rattle.row_needs.proofs.Tables.{closed_more, grown_more, grown_on, next_more, number_here}
+use Rattle.row_needs.proofs.After.{HasAfter, after_same}
+use Rattle.row_needs.proofs.needs.+need.Goals.{in-Some-after, in-None+in_ok-after-in-None+in_ok-gaps-in-None}
 use Rattle.row_needs.proofs.needs.+need.Goals as goal
 
 blank : Candidate
@@ -38,13 +40,13 @@ pub need-requires : goal.need-requires
 unfolding blank
 need-requires t c =
     let possible : IsPossible c.args.task.now.kinds.now c.args.at.now.state (get_or c.as_slice-next-items.result.now c.loop-next.next-index blank).step = c.allows.ensures.0 c.if-not-allows.false in
-    let fewer : columns_left c.args.task.now.kinds.now c.args.at.now.state ≡ columns_left c.args.task.now.kinds.now c.in_ok-after.after.state + 1 = fewer_after c.args.task.now.kinds.now c.args.at.now.state (get_or c.as_slice-next-items.result.now c.loop-next.next-index blank).step c.show_limits.ensures possible ∙ ap (λ (z : State). columns_left c.args.task.now.kinds.now z + 1) (sym c.in_ok-after.ensures.state) in
-    let less : columns_left c.args.task.now.kinds.now c.in_ok-after.after.state < columns_left c.args.task.now.kinds.now c.args.at.now.state = omega (arith, fewer) in
-    let few : columns_left c.args.task.now.kinds.now c.in_ok-after.after.state ≤ 32 = omega (arith, fewer, c.requires.few) in
-    let numbered : IsNumbered c.args.task.now.kinds.now c.in_ok-after.after = c.in_ok-after.ensures.numbered in
+    let fewer : columns_left c.args.task.now.kinds.now c.args.at.now.state ≡ columns_left c.args.task.now.kinds.now c.in_ok-after-in-None.after.state + 1 = fewer_after c.args.task.now.kinds.now c.args.at.now.state (get_or c.as_slice-next-items.result.now c.loop-next.next-index blank).step c.show_limits.ensures possible ∙ ap (λ (z : State). columns_left c.args.task.now.kinds.now z + 1) (sym c.in_ok-after-in-None.ensures.state) in
+    let less : columns_left c.args.task.now.kinds.now c.in_ok-after-in-None.after.state < columns_left c.args.task.now.kinds.now c.args.at.now.state = omega (arith, fewer) in
+    let few : columns_left c.args.task.now.kinds.now c.in_ok-after-in-None.after.state ≤ 32 = omega (arith, fewer, c.requires.few) in
+    let numbered : IsNumbered c.args.task.now.kinds.now c.in_ok-after-in-None.after = c.in_ok-after-in-None.ensures.numbered in
     let sound : AreRests c.args.task.now.kinds.now c.loop-next.needs = c.loop-next.invariant.0 in
     let closed : IsClosed c.args.task.now.kinds.now c.loop-next.needs = c.loop-next.invariant.1 in
-    let led : IsLedTo c.args.task.now.kinds.now c.in_ok-after.after.state = subst (IsLedTo c.args.task.now.kinds.now) (sym c.in_ok-after.ensures.state) (led_on c.args.task.now.kinds.now c.args.at.now.state (get_or c.as_slice-next-items.result.now c.loop-next.next-index blank).step c.requires.led possible) in
+    let led : IsLedTo c.args.task.now.kinds.now c.in_ok-after-in-None.after.state = subst (IsLedTo c.args.task.now.kinds.now) (sym c.in_ok-after-in-None.ensures.state) (led_on c.args.task.now.kinds.now c.args.at.now.state (get_or c.as_slice-next-items.result.now c.loop-next.next-index blank).step c.requires.led possible) in
     let all_led : AreLedTo c.args.task.now.kinds.now c.loop-next.needs = c.loop-next.invariant.4 in
     let within : hash_map_len c.loop-next.needs.rests ≤ c.args.task.now.limit = c.loop-next.invariant.6 in
     search rules
@@ -53,18 +55,40 @@ pub loop-next-preserved : goal.loop-next-preserved
 unfolding blank
 loop-next-preserved t c =
     let possible : IsPossible c.args.task.now.kinds.now c.args.at.now.state (get_or c.as_slice-next-items.result.now c.loop-next.next-index blank).step = c.allows.ensures.0 c.if-not-allows.false in
-    let fewer : columns_left c.args.task.now.kinds.now c.args.at.now.state ≡ columns_left c.args.task.now.kinds.now c.in_ok-after.after.state + 1 = fewer_after c.args.task.now.kinds.now c.args.at.now.state (get_or c.as_slice-next-items.result.now c.loop-next.next-index blank).step c.show_limits.ensures possible ∙ ap (λ (z : State). columns_left c.args.task.now.kinds.now z + 1) (sym c.in_ok-after.ensures.state) in
-    let need : IsNeed c.args.task.now.kinds.now (state_after c.args.task.now.kinds.now c.args.at.now.state (get_or c.as_slice-next-items.result.now c.loop-next.next-index blank).step) c.in_ok-gaps.gaps = subst (λ z. IsNeed c.args.task.now.kinds.now z c.in_ok-gaps.gaps) c.in_ok-after.ensures.state c.in_ok-gaps.ensures.need in
+    let known : HasAfter c.args.task.now.kinds.now c.args.at.now.state (get_or c.as_slice-next-items.result.now c.loop-next.next-index blank).step c.args.task.now.limit c.args.needs.now c.loop-next.needs c.match-after.needs c.match-after.gaps = elim c.match-after.branch [
+      | in-Some-after w ↦ after_same c.args.task.now.kinds.now c.args.at.now.state (get_or c.as_slice-next-items.result.now c.loop-next.next-index blank).step c.args.task.now.limit c.args.needs.now c.loop-next.needs c.match-after.needs c.loop-next.needs c.match-after.gaps w.in-Some-after.gaps w.needs-is w.gaps-is (record {
+        sound = c.loop-next.invariant.0;
+        closed = c.loop-next.invariant.1;
+        grown = λ s has. has;
+        led = c.loop-next.invariant.4;
+        below = c.loop-next.invariant.5;
+        within = c.loop-next.invariant.6;
+        here = w.in-Some-after.ensures.here;
+        need = w.in-Some-after.ensures.need;
+      })
+      | in-None+in_ok-after-in-None+in_ok-gaps-in-None w ↦
+          let fewer : columns_left c.args.task.now.kinds.now c.args.at.now.state ≡ columns_left c.args.task.now.kinds.now w.in_ok-after-in-None.after.state + 1 = fewer_after c.args.task.now.kinds.now c.args.at.now.state (get_or c.as_slice-next-items.result.now c.loop-next.next-index blank).step c.show_limits.ensures possible ∙ ap (λ (z : State). columns_left c.args.task.now.kinds.now z + 1) (sym w.in_ok-after-in-None.ensures.state) in
+          after_same c.args.task.now.kinds.now c.args.at.now.state (get_or c.as_slice-next-items.result.now c.loop-next.next-index blank).step c.args.task.now.limit c.args.needs.now c.loop-next.needs c.match-after.needs w.need.new.needs c.match-after.gaps w.in_ok-gaps-in-None.gaps w.needs-is w.gaps-is (record {
+            sound = w.in_ok-gaps-in-None.ensures.sound;
+            closed = w.in_ok-gaps-in-None.ensures.closed;
+            grown = w.in_ok-gaps-in-None.ensures.grown;
+            led = w.in_ok-gaps-in-None.ensures.all_led;
+            below = below_on c.args.task.now.kinds.now (columns_left c.args.task.now.kinds.now c.args.at.now.state) (columns_left c.args.task.now.kinds.now w.in_ok-after-in-None.after.state + 1) c.args.needs.now c.loop-next.needs w.need.new.needs c.loop-next.invariant.5 w.in_ok-gaps-in-None.ensures.below fewer;
+            within = w.in_ok-gaps-in-None.ensures.within;
+            here = subst (HasRest c.args.task.now.kinds.now w.need.new.needs) w.in_ok-after-in-None.ensures.state w.in_ok-gaps-in-None.ensures.here;
+            need = subst (λ z. IsNeed c.args.task.now.kinds.now z w.in_ok-gaps-in-None.gaps) w.in_ok-after-in-None.ensures.state w.in_ok-gaps-in-None.ensures.need;
+          })
+    ] in
     let each : All (IsCandidate c.args.task.now.kinds.now) c.as_slice-next-items.result.now = subst (All (IsCandidate c.args.task.now.kinds.now)) (sym c.as_slice-next-items.ensures) c.requires.candidates.each in
     let here : IsCandidate c.args.task.now.kinds.now (get_or c.as_slice-next-items.result.now c.loop-next.next-index blank) = All-get_or (IsCandidate c.args.task.now.kinds.now) c.as_slice-next-items.result.now c.loop-next.next-index blank c.loop-next-test.true each in (
-      c.in_ok-gaps.ensures.sound,
-      c.in_ok-gaps.ensures.closed,
-      grown_on c.args.task.now.kinds.now c.args.needs.now c.loop-next.needs c.need.new.needs c.loop-next.invariant.2 c.in_ok-gaps.ensures.grown,
-      next_more c.args.task.now.kinds.now c.args.at.now.state c.loop-next.needs c.need.new.needs c.as_slice-next-items.result.now c.loop-next.next-index blank c.loop-next-test.true c.in_ok-gaps.ensures.grown (λ _. subst (HasRest c.args.task.now.kinds.now c.need.new.needs) c.in_ok-after.ensures.state c.in_ok-gaps.ensures.here) c.loop-next.invariant.3,
-      c.in_ok-gaps.ensures.all_led,
-      below_on c.args.task.now.kinds.now (columns_left c.args.task.now.kinds.now c.args.at.now.state) (columns_left c.args.task.now.kinds.now c.in_ok-after.after.state + 1) c.args.needs.now c.loop-next.needs c.need.new.needs c.loop-next.invariant.5 c.in_ok-gaps.ensures.below fewer,
-      c.in_ok-gaps.ensures.within,
-      best_more c.args.task.now.kinds.now c.args.at.now.state c.as_slice-next-items.result.now c.loop-next.next-index blank c.loop-next.rest c.take.new.self c.in_ok-gaps.gaps c.before-in-loop-next.result c.show_limits.ensures c.loop-next-test.true possible need (c.before-in-loop-next.ensures ∙ ap ends_before here.column) c.in_ok-take.ensures c.loop-next.invariant.7,
+      known.sound,
+      known.closed,
+      grown_on c.args.task.now.kinds.now c.args.needs.now c.loop-next.needs c.match-after.needs c.loop-next.invariant.2 known.grown,
+      next_more c.args.task.now.kinds.now c.args.at.now.state c.loop-next.needs c.match-after.needs c.as_slice-next-items.result.now c.loop-next.next-index blank c.loop-next-test.true known.grown (λ _. known.here) c.loop-next.invariant.3,
+      known.led,
+      known.below,
+      known.within,
+      best_more c.args.task.now.kinds.now c.args.at.now.state c.as_slice-next-items.result.now c.loop-next.next-index blank c.loop-next.rest c.take.new.self c.match-after.gaps c.before-in-loop-next.result c.show_limits.ensures c.loop-next-test.true possible known.need (c.before-in-loop-next.ensures ∙ ap ends_before here.column) c.in_ok-take.ensures c.loop-next.invariant.7,
     )
 
 pub returns-clause-need : goal.returns-clause-need
