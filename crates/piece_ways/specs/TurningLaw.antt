@@ -65,6 +65,8 @@ turning_rule = record {
       fits = firsts_fit pins limit into before line after out f;
     },
   );
+  low = λ pins limit before line after into out f net held on. f.low net (out net) (record
+      { held = held; piece = inr (on, refl) });
   all = all_ways;
   only = only_ways;
 }

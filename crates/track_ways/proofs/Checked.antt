@@ -12,13 +12,16 @@ use Rattle.row_state.specs.Steps.{column_of, state_after, IsPossible}
 use Rattle.cell_num.specs.Pins.{is_rail}
 use Rattle.track_ways.specs.Rows.{node_line}
 use Rattle.track_ways.specs.States.{is_behind, is_still_ahead, is_open_at}
-use Rattle.track_ways.specs.Paths.{lines_to, Ends, EndsFit, Goes}
+use Rattle.track_ways.specs.Lines.{LineRule}
+use Rattle.track_ways.specs.Paths.{lines_to, EndsBy, EndsFit, GoesBy}
+use Rattle.track_ways.specs.Rules.{IsRule}
+use Rattle.track_ways.specs.StraightLaw.{straight_rule}
 use Rattle.track_ways.specs.declared.track.NetTrack.{NetTrack}
 use Rattle.track_ways.specs.declared.lemma.TrackLemma.{TrackLemma}
-use Rattle.track_ways.specs.Certificate.{Branches, Covers, IsRefuted, IsJustified, IsValid}
+use Rattle.track_ways.specs.Certificate.{BranchesBy, Covers, IsRefuted, IsJustified, IsJustifiedBy, IsValid}
 use Rattle.track_ways.specs.Tracks.{AreTracksOf, AreKeys, Listed}
-use Rattle.track_ways.specs.Ways.{goes_ways, nets_below, pass_ways, ends_ways, is_behind_step}
-use Rattle.track_ways.specs.Checked.{BranchesListed, CoversListed, IsRefutedListed, IsJustifiedListed}
+use Rattle.track_ways.specs.Ways.{LineWays, goes_ways_by, nets_below, ends_ways_by, is_behind_step}
+use Rattle.track_ways.specs.Checked.{BranchesListedBy, CoversListed, IsRefutedListed, IsJustifiedListed, IsJustifiedListedBy}
 use Rattle.row_model.specs.declared.column.Column.{Column}
 use Rattle.row_state.specs.declared.step.Step.{Step}
 use Rattle.row_state.specs.Completion.{Completes}
@@ -26,8 +29,8 @@ use Rattle.row_state.specs.Start.{AreSomeKinds, GatesAreNets}
 use Rattle.row_state.proofs.Exists.{completion_exists}
 use Rattle.row_state.proofs.Valid.{gates_are_nets}
 use Rattle.track_ways.proofs.Path.{StepsOf, steps_of}
-use Rattle.track_ways.proofs.Complete.{pass_complete}
-use Rattle.track_ways.proofs.Steps.{step_only, step_keys, step_behind, ends_listed}
+use Rattle.track_ways.proofs.Complete.{pass_complete_by}
+use Rattle.track_ways.proofs.Steps.{step_only_by, step_keys_by, step_behind, ends_listed_by}
 
 listed_covers : (s : State) (gaps : ℕ) (way : List NetTrack) (next : NetNo → ℕ) (lemma : TrackLemma) → AreTracksOf way next → CoversListed s gaps way lemma → Covers s gaps next lemma
 listed_covers s gaps way next lemma have h = record {
@@ -43,20 +46,17 @@ refuted_listed value k earlier s gaps way next have (inr any) =
     inr (any_from_some (Covers s gaps next) earlier (record { it = found.it; there = found.there; holds = listed_covers s gaps way next found.it have found.holds }))
 
 -- what a checker goes through is enough
-pub branches_listed : (value : Row → State → Kinds → ℕ) (pins : Pins) (limit : ℕ) (k : Kinds) (earlier : List TrackLemma) (lemma : TrackLemma) → BranchesListed value pins limit k earlier lemma → Branches value pins limit k earlier lemma
-branches_listed value pins limit k earlier lemma h = record {
+pub branches_listed_by : {rule : LineRule} {ways : LineWays} → IsRule rule ways →
+    (value : Row → State → Kinds → ℕ) (pins : Pins) (limit : ℕ) (k : Kinds) (earlier : List TrackLemma)
+    (lemma : TrackLemma) → BranchesListedBy ways value pins limit k earlier lemma →
+    BranchesBy rule value pins limit k earlier lemma
+branches_listed_by {rule} {ways} r value pins limit k earlier lemma h = record {
   steps = λ step possible track next left have goes sum.
       let s : State = lemma.state in
-      let found : Some' (λ way. AreTracksOf way next) (goes_ways pins limit k s lemma.tracks step) = pass_complete pins limit (nets_below k.nets) (is_behind k s) track (lines_to s (column_of k step)) (is_still_ahead k (state_after k s step)) next lemma.tracks have goes in
-      refuted_listed value k earlier (state_after k s step) left found.it next found.holds (All-contains (IsRefutedListed value k earlier (state_after k s step) left) (goes_ways pins limit k s lemma.tracks step) found.it (h.steps step left possible sum) found.there);
-  ends = λ none track have e. let found : Some' (λ way. AreTracksOf way e.0) (pass_ways pins limit (nets_below k.nets) (is_behind k lemma.state) (node_line lemma.state.p_end lemma.state.n_end ∷ []) (λ net. false) lemma.tracks) = pass_complete pins limit (nets_below k.nets) (is_behind k lemma.state) track (node_line lemma.state.p_end lemma.state.n_end ∷ []) (λ net. false) e.0 lemma.tracks have e.1 in
+      let found : Some' (λ way. AreTracksOf way next) (goes_ways_by ways pins limit k s lemma.tracks step) = pass_complete_by r pins limit (nets_below k.nets) (is_behind k s) track (lines_to s (column_of k step)) (is_still_ahead k (state_after k s step)) next lemma.tracks have goes in
+      refuted_listed value k earlier (state_after k s step) left found.it next found.holds (All-contains (IsRefutedListed value k earlier (state_after k s step) left) (goes_ways_by ways pins limit k s lemma.tracks step) found.it (h.steps step left possible sum) found.there);
+  ends = λ none track have e. let found : Some' (λ way. AreTracksOf way e.0) (ends_ways_by ways pins limit k lemma.state lemma.tracks) = pass_complete_by r pins limit (nets_below k.nets) (is_behind k lemma.state) track (node_line lemma.state.p_end lemma.state.n_end ∷ []) (λ net. false) e.0 lemma.tracks have e.1 in
       contains_none found.it (subst (λ ws. Contains ws found.it) (h.ends none) found.there);
-}
-
-justified_listed : (value : Row → State → Kinds → ℕ) (pins : Pins) (limit : ℕ) (k : Kinds) (earlier : List TrackLemma) (lemma : TrackLemma) → IsJustifiedListed value pins limit k earlier lemma → IsJustified value pins limit k earlier lemma
-justified_listed value pins limit k earlier lemma h = record {
-  valid = h.valid;
-  holds = elim h.holds [ inl d ↦ inl d | inr b ↦ inr (branches_listed value pins limit k earlier lemma b) ];
 }
 
 same_behind : (k : Kinds) (s : State) (step : Step) → GatesAreNets k → EndsFit k s → IsPossible k s step → (net : NetNo) → is_behind_step k s step net ≡ is_behind k (state_after k s step) net
@@ -99,16 +99,28 @@ refuted_way value pins k earlier s step left way next same keys have valid (inr 
       };
     }))
 
-branches_back : (value : Row → State → Kinds → ℕ) (pins : Pins) (limit : ℕ) (k : Kinds) (earlier : List TrackLemma) (lemma : TrackLemma) → AreSomeKinds k → All (IsValid pins k) earlier → IsValid pins k lemma → Branches value pins limit k earlier lemma → BranchesListed value pins limit k earlier lemma
-branches_back value pins limit k earlier lemma some valid v h = record {
-  steps = λ step left possible sum. all_from_contains (IsRefutedListed value k earlier (state_after k lemma.state step) left) (goes_ways pins limit k lemma.state lemma.tracks step) (λ way there.
-      let only : (track : NetNo → ℕ) × (next : NetNo → ℕ) × AreTracksOf lemma.tracks track × Goes pins limit k lemma.state track step next × AreTracksOf way next = step_only pins limit k lemma.state step lemma.tracks way some v.state v.one there in
-      refuted_way value pins k earlier lemma.state step left way only.1 (same_behind k lemma.state step (gates_are_nets k some) v.ends possible) (step_keys pins limit k lemma.state step lemma.tracks way some v.state v.one there) only.4 valid (h.steps step possible only.0 only.1 left only.2 only.3 sum));
-  ends = λ none. let e : (ends_ways pins limit k lemma.state lemma.tracks ≡ []) ↔ ((track : NetNo → ℕ) → AreTracksOf lemma.tracks track → Ends pins limit k lemma.state track → ⊥) = ends_listed pins limit k lemma.state lemma.tracks some v.state v.one in e.1 (h.ends none);
+branches_back : {rule : LineRule} {ways : LineWays} → IsRule rule ways →
+    (value : Row → State → Kinds → ℕ) (pins : Pins) (limit : ℕ) (k : Kinds) (earlier : List TrackLemma)
+    (lemma : TrackLemma) → AreSomeKinds k → All (IsValid pins k) earlier → IsValid pins k lemma →
+    BranchesBy rule value pins limit k earlier lemma → BranchesListedBy ways value pins limit k earlier lemma
+branches_back {rule} {ways} r value pins limit k earlier lemma some valid v h = record {
+  steps = λ step left possible sum. all_from_contains (IsRefutedListed value k earlier (state_after k lemma.state step) left) (goes_ways_by ways pins limit k lemma.state lemma.tracks step) (λ way there.
+      let only : (track : NetNo → ℕ) × (next : NetNo → ℕ) × AreTracksOf lemma.tracks track × GoesBy rule pins limit k lemma.state track step next × AreTracksOf way next = step_only_by r pins limit k lemma.state step lemma.tracks way some v.state v.one there in
+      refuted_way value pins k earlier lemma.state step left way only.1 (same_behind k lemma.state step (gates_are_nets k some) v.ends possible) (step_keys_by r pins limit k lemma.state step lemma.tracks way some v.state v.one there) only.4 valid (h.steps step possible only.0 only.1 left only.2 only.3 sum));
+  ends = λ none. let e : (ends_ways_by ways pins limit k lemma.state lemma.tracks ≡ []) ↔ ((track : NetNo → ℕ) → AreTracksOf lemma.tracks track → EndsBy rule pins limit k lemma.state track → ⊥) = ends_listed_by r pins limit k lemma.state lemma.tracks some v.state v.one in e.1 (h.ends none);
 }
 
-pub justified_decided : (value : Row → State → Kinds → ℕ) (pins : Pins) (limit : ℕ) (k : Kinds) (earlier : List TrackLemma) (lemma : TrackLemma) → AreSomeKinds k → All (IsValid pins k) earlier → IsJustified value pins limit k earlier lemma ↔ IsJustifiedListed value pins limit k earlier lemma
-justified_decided value pins limit k earlier lemma some valid = (
-  λ h. record { valid = h.valid; holds = elim h.holds [ inl d ↦ inl d | inr b ↦ inr (branches_back value pins limit k earlier lemma some valid h.valid b) ] },
-  justified_listed value pins limit k earlier lemma,
+pub justified_decided_by : {rule : LineRule} {ways : LineWays} → IsRule rule ways →
+    (value : Row → State → Kinds → ℕ) (pins : Pins) (limit : ℕ) (k : Kinds) (earlier : List TrackLemma)
+    (lemma : TrackLemma) → AreSomeKinds k → All (IsValid pins k) earlier →
+    IsJustifiedBy rule value pins limit k earlier lemma ↔ IsJustifiedListedBy ways value pins limit k earlier lemma
+justified_decided_by r value pins limit k earlier lemma some valid = (
+  λ h. record { valid = h.valid; holds = elim h.holds [ inl d ↦ inl d | inr b ↦ inr (branches_back r value pins limit k earlier lemma some valid h.valid b) ] },
+  λ h. record { valid = h.valid; holds = elim h.holds [ inl d ↦ inl d | inr b ↦ inr (branches_listed_by r value pins limit k earlier lemma b) ] },
 )
+
+-- where nets go straight
+pub justified_decided : (value : Row → State → Kinds → ℕ) (pins : Pins) (limit : ℕ) (k : Kinds)
+    (earlier : List TrackLemma) (lemma : TrackLemma) → AreSomeKinds k → All (IsValid pins k) earlier →
+    IsJustified value pins limit k earlier lemma ↔ IsJustifiedListed value pins limit k earlier lemma
+justified_decided = justified_decided_by straight_rule

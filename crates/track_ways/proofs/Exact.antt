@@ -8,7 +8,7 @@ use Rattle.cell_num.proofs.In.{in_flat, Piece}
 use Rattle.cell_num.proofs.Lists.{all_from_contains, contains_one}
 use Rattle.track_ways.specs.declared.line.Line.{Line}
 use Rattle.track_ways.specs.declared.track.NetTrack.{NetTrack}
-use Rattle.track_ways.specs.Lines.{Agrees, LineRule, Passes, PassesBy, StraightFits, has_place, is_ahead, is_held, is_open, is_twice, with_line}
+use Rattle.track_ways.specs.Lines.{Agrees, LineRule, PassesBy, StraightFits, has_place, is_ahead, is_held, is_open, is_twice, with_line}
 use Rattle.track_ways.specs.Tracks.{AreTracksOf, IsSingle, Listed}
 use Rattle.track_ways.specs.Ways.{LineWays, is_listed, open_of, pass_ways, pass_ways_by}
 use Rattle.track_ways.specs.Rules.{Among, IsRule, IsWay}

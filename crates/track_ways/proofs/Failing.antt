@@ -28,7 +28,7 @@ use Rattle.row_state.specs.Start.{start_of, GatesAreNets, AreKinds, HasFingers}
 use Rattle.row_state.specs.Steps.{column_of, state_after, IsPossible}
 use Rattle.row_state.proofs.Unfold.{completion_of, further_step, gaps_from_start, unfold_from}
 use Rattle.track_ways.specs.declared.line.Line.{Line}
-use Rattle.track_ways.specs.Lines.{Fits, LineRule, PassesBy, StraightFits, has_place, is_ahead, is_open}
+use Rattle.track_ways.specs.Lines.{Fits, LineRule, PassesBy, StraightFits, is_ahead, is_open}
 use Rattle.track_ways.specs.Rules.{IsAgain, IsOwn, IsWider}
 use Rattle.track_ways.specs.Fillings.{open_holds}
 use Rattle.track_ways.specs.StraightLaw.{straight_rule}

@@ -17,7 +17,6 @@ use Rattle.row_state.specs.Completion.{Completes}
 use Rattle.row_state.specs.Start.{start_of, GatesAreNets, AreKinds}
 use Rattle.row_state.specs.Steps.{column_of, state_after}
 use Rattle.row_state.proofs.Unfold.{unfold_from, completion_of}
-use Rattle.track_ways.specs.declared.line.Line.{Line}
 use Rattle.track_ways.specs.Lines.{Fits, LineRule, StraightFits, Sweeps, is_ahead}
 use Rattle.track_ways.specs.Rules.{IsAgain}
 use Rattle.track_ways.specs.StraightLaw.{straight_rule}

@@ -1,5 +1,5 @@
 -- What the tests of tracks at a line say, track by track.
-use Rattle.std.proofs.Common.{ℕ, ◌≡◌, ◌≢◌, ◌<◌, ◌⊎◌, ◌&&◌, ◌||◌, ◌==◌, ltb, not, Bool, true, false, cond, List, []}
+use Rattle.std.proofs.Common.{ℕ, ◌≡◌, ◌≢◌, ◌<◌, ◌&&◌, ◌||◌, ◌==◌, ltb, not, Bool, true, false, cond, List, []}
 use Rattle.std.proofs.Common.{Some, inl, inr, refl, sym, ap, Contains}
 use Rattle.std.specs.List.{list_all}
 use Rattle.std.proofs.lemmas.Bool.{and_from, and_parts, cases_eq, eq-eqb, eqb-true, lt-ltb, ltb-true}

@@ -1,5 +1,5 @@
 -- What is asked of a rule of how tracks go through a line, and of its lists of tracks.
-use Rattle.std.specs.Prelude.{ℕ, ◌≡◌, ◌≤◌, ◌⊎◌, ◌||◌, Bool, true, false, List, All, Any, Contains}
+use Rattle.std.specs.Prelude.{ℕ, ◌≡◌, ◌≤◌, ◌<◌, ◌⊎◌, ◌||◌, Bool, true, false, List, All, Any, Contains}
 use Rattle.cell_num.specs.declared.net.NetNo.{NetNo}
 use Rattle.cell_num.specs.declared.net.Pins.{Pins}
 use Rattle.track_ways.specs.declared.line.Line.{Line}
@@ -43,11 +43,20 @@ IsOwn rule =
     → rule pins limit track before line after next
     → (of : NetNo → ℕ) × StraightFits pins limit track before line after of
 
+-- a net that begins at a line or goes on from it has a track below the limit
+abbrev pub IsLow : LineRule → Type 0
+IsLow rule =
+    (pins : Pins) (limit : ℕ) (before : NetNo → Bool) (line : Line) (after : NetNo → Bool) (track next : NetNo → ℕ)
+    → rule pins limit track before line after next
+    → (net : NetNo) → is_held pins before line after net ≡ true → (before net ≡ false) ⊎ (after net ≡ true)
+    → next net < limit
+
 -- the rule, and these lists for it
 pub record IsRule (rule : LineRule) (ways : LineWays) : Type 0 where
   pub wider : IsWider rule
   pub again : IsAgain rule
   pub own : IsOwn rule
+  pub low : IsLow rule
   -- each way of tracks through the line is listed
   pub all : (pins : Pins) (limit : ℕ) (nets : List NetNo) (before : NetNo → Bool) (line : Line) (after : NetNo → Bool)
       (track next : NetNo → ℕ) (tracks : List NetTrack)

@@ -1,5 +1,5 @@
 -- Nets that go straight through a line meet what is asked of a rule.
-use Rattle.std.proofs.Common.{ℕ, ◌≡◌, ◌<◌, ◌≤◌, ◌||◌, Bool, true, List, [], Some, refl, sym, ap, subst, arith, All, Any}
+use Rattle.std.proofs.Common.{ℕ, ◌≡◌, ◌<◌, ◌||◌, Bool, true, List, [], Some, refl, sym, ap, subst, arith, All, Any}
 use Rattle.std.proofs.Common.{Contains, ◌∙◌}
 use Rattle.std.proofs.lemmas.List.Elements.{All-contains}
 use Rattle.cell_num.specs.declared.net.NetNo.{NetNo}
@@ -139,6 +139,7 @@ straight_rule = record {
   again = λ pins limit before line after track other next agrees f. record
       { same = λ net o. f.same net o ∙ agrees net o; fits = f.fits };
   own = λ pins limit before line after track next f. (next, f);
+  low = λ pins limit before line after track next f net held on. f.fits.low net held;
   all = all_ways;
   only = only_ways;
 }

@@ -24,7 +24,7 @@ pub use fit::{are_apart, do_fit, is_listed};
 pub use held::{is_held, is_marked, is_net, is_open};
 pub use laws::{tracks_listed, tracks_listed_by};
 pub use lemma::{TrackLemma, TrackLemmas};
-pub use lemma_laws::{lemmas_checked, tracks_by_lemmas};
+pub use lemma_laws::{failures_by_lemmas, lemmas_checked, lemmas_checked_by, tracks_by_lemmas};
 pub use line::Line;
 pub use line_laws::{legal_by_lines, rows_by_lines, tracks_by_lines, trunks_by_wires};
 pub use line_ways::{add_beside, missing_nets, open_tracks, with_track};
