@@ -1,0 +1,5 @@
+pub mod First
+pub mod Found
+pub mod Passed
+pub mod Proved
+pub mod Sound

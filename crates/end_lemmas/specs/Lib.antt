@@ -1,0 +1,6 @@
+-- Read these first: what contracts of public calls cite.
+pub mod Steps
+pub mod Justified
+pub mod Indexed
+-- What inner contracts cite.
+pub mod Inner
