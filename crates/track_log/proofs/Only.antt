@@ -20,13 +20,15 @@ use Rattle.bound_log.proofs.Only.{err-ok, line_of_words, same_Ok, text_cons}
 use Rattle.row_cycles.specs.declared.lemma.CycleLemma.{CycleLemma}
 use Rattle.row_cycles.specs.Fits.{CycleFits}
 use Rattle.track_ways.specs.declared.lemma.TrackLemma.{TrackLemma}
+use Rattle.track_log.specs.declared.certificate.Course.{Course}
+use Rattle.track_log.specs.declared.certificate.Course.TheVariants as course
 use Rattle.track_log.specs.declared.certificate.TrackCertificate.{TrackCertificate}
 use Rattle.track_log.specs.Fits.{CertificateFits, LemmaFits}
 use Rattle.track_log.specs.Line.{count_in, cycle_in, gaps_in, lemma_in}
-use Rattle.track_log.specs.Reading.{begun_by, certificate_of, count_at, cycles_at, gaps_at, lemmas_at, named_at, text_at}
-use Rattle.track_log.specs.Text.{certificate_text, cycle_line, lemma_line, tracks_line, version_line}
+use Rattle.track_log.specs.Reading.{begun_by, certificate_by, certificate_of, count_at, cycles_at, gaps_at, lemmas_at, named_at, text_at}
+use Rattle.track_log.specs.Text.{certificate_text, certificate_text_by, cycle_line, lemma_line, tracks_line, version_line_by}
 use Rattle.track_log.proofs.Fronts.{without_cycles}
-use Rattle.track_log.proofs.Whole.{read_again, text_apart}
+use Rattle.track_log.proofs.Whole.{read_again_by, text_apart}
 use Rattle.track_log.proofs.Words.{count_joined, count_only, cycle_joined, cycle_only, cycle_words, gaps_joined, gaps_only, lemma_joined, lemma_only, lemma_words}
 
 bound_ok : {A B E : Type 0} (r : Result A E) (f : A → Result B E) (b : B) → (r >>= f) ≡ Ok b → (a : A) × (r ≡ Ok a) × (f a ≡ Ok b)
@@ -155,21 +157,25 @@ named_read name k (line ∷ lines) rest c some h =
     let later = gaps_read k lines rest c some one.1 in
     (before line lines rest (fed (codes "cell " ++ name)) _ (ap fed (same_words line (codes "cell " ++ name) one.0)) later.0, later.1)
 
-text_read : (name : List ℕ) (k : Kinds) (lines : List (List ℕ)) (rest : List ℕ) (c : TrackCertificate) → AreSomeKinds k → text_at name k lines rest ≡ Ok c → (lines_text lines rest ≡ certificate_text name c) × CertificateFits k c
-text_read name k [] rest c some h = absurd (err-ok fault.Cut c h)
-text_read name k (line ∷ lines) rest c some h =
-    let one = required (is_word line version_line) fault.Version _ c h in
+text_read : (by : Course) (name : List ℕ) (k : Kinds) (lines : List (List ℕ)) (rest : List ℕ) (c : TrackCertificate) → AreSomeKinds k → text_at by name k lines rest ≡ Ok c → (lines_text lines rest ≡ certificate_text_by by name c) × CertificateFits k c
+text_read by name k [] rest c some h = absurd (err-ok fault.Cut c h)
+text_read by name k (line ∷ lines) rest c some h =
+    let one = required (is_word line (version_line_by by)) fault.Version _ c h in
     let later = named_read name k lines rest c some one.1 in
-    (before line lines rest (fed version_line) _ (ap fed (same_words line version_line one.0)) later.0 ∙ sym (text_apart name c), later.1)
+    (before line lines rest (fed (version_line_by by)) _ (ap fed (same_words line (version_line_by by) one.0)) later.0 ∙ sym (text_apart by name c), later.1)
 
 -- what is read fits, and its text is what was read
-pub read_only : (bytes name : List ℕ) (k : Kinds) (c : TrackCertificate) → AreSomeKinds k → certificate_of bytes name k ≡ Ok c → CertificateFits k c × (bytes ≡ certificate_text name c)
-unfolding certificate_of
-read_only bytes name k c some h =
-    let read = text_read name k (lines_in bytes) (behind bytes) c some h in
+pub read_only : (by : Course) (bytes name : List ℕ) (k : Kinds) (c : TrackCertificate) → AreSomeKinds k → certificate_by by bytes name k ≡ Ok c → CertificateFits k c × (bytes ≡ certificate_text_by by name c)
+unfolding certificate_by
+read_only by bytes name k c some h =
+    let read = text_read by name k (lines_in bytes) (behind bytes) c some h in
     (read.1, bytes_again bytes ∙ read.0)
 
 -- no other certificate that fits has the text
+pub read_one_by : (by : Course) (bytes name : List ℕ) (k : Kinds) (c other : TrackCertificate) → IsLogName name → AreSomeKinds k → certificate_by by bytes name k ≡ Ok c → CertificateFits k other → certificate_text_by by name other ≡ bytes → other ≡ c
+read_one_by by bytes name k c other is_name some h fits same =
+    same_Ok other c (sym (read_again_by by name k other is_name some fits) ∙ (ap (λ (t : List ℕ). certificate_by by t name k) same ∙ h))
+
+-- the same where nets go straight
 pub read_one : (bytes name : List ℕ) (k : Kinds) (c other : TrackCertificate) → IsLogName name → AreSomeKinds k → certificate_of bytes name k ≡ Ok c → CertificateFits k other → certificate_text name other ≡ bytes → other ≡ c
-read_one bytes name k c other is_name some h fits same =
-    same_Ok other c (sym (read_again name k other is_name some fits) ∙ (ap (λ (t : List ℕ). certificate_of t name k) same ∙ h))
+read_one = read_one_by course.Straight

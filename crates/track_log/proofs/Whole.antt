@@ -20,11 +20,13 @@ use Rattle.bound_log.proofs.Whole.{fed_first}
 use Rattle.row_cycles.specs.declared.lemma.CycleLemma.{CycleLemma}
 use Rattle.row_cycles.specs.Fits.{CycleFits}
 use Rattle.track_ways.specs.declared.lemma.TrackLemma.{TrackLemma}
+use Rattle.track_log.specs.declared.certificate.Course.{Course}
+use Rattle.track_log.specs.declared.certificate.Course.TheVariants as course
 use Rattle.track_log.specs.declared.certificate.TrackCertificate.{TrackCertificate}
 use Rattle.track_log.specs.Fits.{CertificateFits, LemmaFits}
 use Rattle.track_log.specs.Line.{count_in, cycle_in, gaps_in, lemma_in}
-use Rattle.track_log.specs.Reading.{certificate_of, count_at, cycles_at, gaps_at, lemmas_at, named_at, text_at}
-use Rattle.track_log.specs.Text.{certificate_text, cycle_line, head_lines, lemma_line, tracks_line, version_line}
+use Rattle.track_log.specs.Reading.{certificate_by, certificate_of, count_at, course_at, course_of, cycles_at, gaps_at, lemmas_at, named_at, text_at}
+use Rattle.track_log.specs.Text.{certificate_text, certificate_text_by, cycle_line, head_lines, lemma_line, tracks_line, version_line_by}
 use Rattle.track_log.proofs.Fronts.{without_cycles}
 use Rattle.track_log.proofs.Words.{count_above, count_again, count_joined, cycle_above, cycle_again, cycle_joined, cycle_words, fields_words, gaps_above, gaps_again, gaps_joined, lemma_above, lemma_again, lemma_joined, lemma_words, no_cycle}
 
@@ -148,29 +150,51 @@ bounded_again k c some fits =
     ∙ (rw (fed_first line text lack, fed_behind line text lack) (gaps_step c.gaps k line (lines_in text) (behind text) words ∙ counted_again k c some fits))
 
 -- the lines of a certificate, one after the other
-pub text_apart : (name : List ℕ) (c : TrackCertificate) → certificate_text name c ≡ fed version_line ++ (fed (codes "cell " ++ name) ++ (gaps_line c.gaps ++ (tracks_line c.tracks ++ (flat_map cycle_line c.cycles ++ (flat_map lemma_line c.lemmas ++ codes "end\n")))))
-text_apart name c = apart name (gaps_line c.gaps) (tracks_line c.tracks) (flat_map cycle_line c.cycles) (flat_map lemma_line c.lemmas)
+pub text_apart : (by : Course) (name : List ℕ) (c : TrackCertificate) → certificate_text_by by name c ≡ fed (version_line_by by) ++ (fed (codes "cell " ++ name) ++ (gaps_line c.gaps ++ (tracks_line c.tracks ++ (flat_map cycle_line c.cycles ++ (flat_map lemma_line c.lemmas ++ codes "end\n")))))
+text_apart by name c = apart (version_line_by by) name (gaps_line c.gaps) (tracks_line c.tracks) (flat_map cycle_line c.cycles) (flat_map lemma_line c.lemmas)
   where
-    apart : (cell gaps tracks cs ls : List ℕ) → (codes "cellgen-tracks 1\ncell " ++ cell ++ codes "\n") ++ gaps ++ tracks ++ cs ++ ls ++ codes "end\n" ≡ fed version_line ++ (fed (codes "cell " ++ cell) ++ (gaps ++ (tracks ++ (cs ++ (ls ++ codes "end\n")))))
-    apart cell gaps tracks cs ls = simp append_assoc
+    apart : (version cell gaps tracks cs ls : List ℕ) → (version ++ codes "\ncell " ++ cell ++ codes "\n") ++ gaps ++ tracks ++ cs ++ ls ++ codes "end\n" ≡ fed version ++ (fed (codes "cell " ++ cell) ++ (gaps ++ (tracks ++ (cs ++ (ls ++ codes "end\n")))))
+    apart version cell gaps tracks cs ls = simp append_assoc
+
+version_lacks : (by : Course) → Lacks 10 (version_line_by by)
+version_lacks course.Straight = above_lacks 31 10 (version_line_by course.Straight) (omega arith) (by_test 31 (version_line_by course.Straight) refl)
+version_lacks course.Turning = above_lacks 31 10 (version_line_by course.Turning) (omega arith) (by_test 31 (version_line_by course.Turning) refl)
+
+version_step : (by : Course) (name : List ℕ) (k : Kinds) (line : List ℕ) (lines : List (List ℕ)) (rest : List ℕ) → line ≡ version_line_by by → text_at by name k (line ∷ lines) rest ≡ named_at name k lines rest
+version_step by name k line lines rest is = rw (is_same line (version_line_by by) is) refl
 
 -- what fits is read again
-pub read_again : (name : List ℕ) (k : Kinds) (c : TrackCertificate) → IsLogName name → AreSomeKinds k → CertificateFits k c → certificate_of (certificate_text name c) name k ≡ Ok c
-unfolding certificate_of
-read_again name k c is_name some fits =
+pub read_again_by : (by : Course) (name : List ℕ) (k : Kinds) (c : TrackCertificate) → IsLogName name → AreSomeKinds k → CertificateFits k c → certificate_by by (certificate_text_by by name c) name k ≡ Ok c
+unfolding certificate_by
+read_again_by by name k c is_name some fits =
     let cell = codes "cell " ++ name in
     let later = gaps_line c.gaps ++ (tracks_line c.tracks ++ (flat_map cycle_line c.cycles ++ (flat_map lemma_line c.lemmas ++ codes "end\n"))) in
-    let version : Lacks 10 version_line = above_lacks 31 10 version_line (omega arith) (by_test 31 version_line refl) in
+    let version : Lacks 10 (version_line_by by) = version_lacks by in
     let front : Lacks 10 (codes "cell ") = above_lacks 31 10 (codes "cell ") (omega arith) (by_test 31 (codes "cell ") refl) in
     let named : Lacks 10 cell = All-append (λ b. (b == 10) ≡ false) (codes "cell ") name front (other_lack name is_name.line) in
-    ap (λ (t : List ℕ). text_at name k (lines_in t) (behind t)) (text_apart name c)
-    ∙ (rw (fed_first version_line (fed cell ++ later) version, fed_behind version_line (fed cell ++ later) version, fed_first cell later named, fed_behind cell later named)
-    (named_step name k cell (lines_in later) (behind later) refl ∙ bounded_again k c some fits))
+    ap (λ (t : List ℕ). text_at by name k (lines_in t) (behind t)) (text_apart by name c)
+    ∙ (rw (fed_first (version_line_by by) (fed cell ++ later) version, fed_behind (version_line_by by) (fed cell ++ later) version, fed_first cell later named, fed_behind cell later named)
+    (version_step by name k (version_line_by by) (cell ∷ lines_in later) (behind later) refl
+    ∙ (named_step name k cell (lines_in later) (behind later) refl ∙ bounded_again k c some fits)))
+
+-- its first line names its course
+course_first : (by : Course) (lines : List (List ℕ)) → course_at (version_line_by by ∷ lines) ≡ by
+course_first course.Straight lines = refl
+course_first course.Turning lines = refl
+
+pub course_again : (by : Course) (name : List ℕ) (c : TrackCertificate) → course_of (certificate_text_by by name c) ≡ by
+course_again by name c =
+    let later = fed (codes "cell " ++ name) ++ (gaps_line c.gaps ++ (tracks_line c.tracks ++ (flat_map cycle_line c.cycles ++ (flat_map lemma_line c.lemmas ++ codes "end\n")))) in
+    ap course_of (text_apart by name c) ∙ (ap course_at (fed_first (version_line_by by) later (version_lacks by)) ∙ course_first by (lines_in later))
 
 -- no certificate that fits has a text that is refused
+pub refused_by : (by : Course) (bytes name : List ℕ) (k : Kinds) (f : LogFault) (c : TrackCertificate) → IsLogName name → AreSomeKinds k → certificate_by by bytes name k ≡ Err f → CertificateFits k c → certificate_text_by by name c ≢ bytes
+refused_by by bytes name k f c is_name some h fits same =
+    err-ok f c (sym h ∙ (ap (λ (t : List ℕ). certificate_by by t name k) (sym same) ∙ read_again_by by name k c is_name some fits))
+
+-- the same where nets go straight
 pub refused : (bytes name : List ℕ) (k : Kinds) (f : LogFault) (c : TrackCertificate) → IsLogName name → AreSomeKinds k → certificate_of bytes name k ≡ Err f → CertificateFits k c → certificate_text name c ≢ bytes
-refused bytes name k f c is_name some h fits same =
-    err-ok f c (sym h ∙ (ap (λ (t : List ℕ). certificate_of t name k) (sym same) ∙ read_again name k c is_name some fits))
+refused = refused_by course.Straight
 
 lines_most : {A : Type 0} (write : A → List ℕ) (items : List A) → ((item : A) → 0 < length (write item)) → length items ≤ length (flat_map write items)
 lines_most write [] some = omega arith
@@ -182,13 +206,13 @@ some_cycle lemma = omega arith
 some_lemma : (lemma : TrackLemma) → 0 < length (lemma_line lemma)
 some_lemma lemma = omega arith
 
-lemmas_within : (name : List ℕ) (c : TrackCertificate) → length c.cycles + length c.lemmas ≤ length (certificate_text name c)
-lemmas_within name c =
-    let front = head_lines name ++ gaps_line c.gaps ++ tracks_line c.tracks in
+lemmas_within : (by : Course) (name : List ℕ) (c : TrackCertificate) → length c.cycles + length c.lemmas ≤ length (certificate_text_by by name c)
+lemmas_within by name c =
+    let front = head_lines by name ++ gaps_line c.gaps ++ tracks_line c.tracks in
     let cycles = flat_map cycle_line c.cycles in
     let lemmas = flat_map lemma_line c.lemmas in
     omega (arith, lines_most cycle_line c.cycles some_cycle, lines_most lemma_line c.lemmas some_lemma, length-append (front ++ cycles ++ lemmas) (codes "end\n"), length-append (front ++ cycles) lemmas, length-append front cycles)
 
 -- each lemma takes a byte at least
-pub few_lemmas : (bytes name : List ℕ) (c : TrackCertificate) → bytes ≡ certificate_text name c → length c.cycles + length c.lemmas ≤ length bytes
-few_lemmas bytes name c is = rw is (lemmas_within name c)
+pub few_lemmas : (by : Course) (bytes name : List ℕ) (c : TrackCertificate) → bytes ≡ certificate_text_by by name c → length c.cycles + length c.lemmas ≤ length bytes
+few_lemmas by bytes name c is = rw is (lemmas_within by name c)

@@ -9,9 +9,11 @@ use Rattle.bound_log.specs.declared.fault.LogFault.TheVariants as fault
 use Rattle.bound_log.specs.Reading.{end_at}
 use Rattle.row_cycles.specs.declared.lemma.CycleLemma.{CycleLemma}
 use Rattle.track_ways.specs.declared.lemma.TrackLemma.{TrackLemma}
+use Rattle.track_log.specs.declared.certificate.Course.{Course}
+use Rattle.track_log.specs.declared.certificate.Course.TheVariants as course
 use Rattle.track_log.specs.declared.certificate.TrackCertificate.{TrackCertificate}
 use Rattle.track_log.specs.Line.{count_in, cycle_in, gaps_in, lemma_in}
-use Rattle.track_log.specs.Text.{version_line}
+use Rattle.track_log.specs.Text.{version_line_by}
 
 -- Below, line n is the first of the lines, and the rest are the bytes after the last one.
 
@@ -65,12 +67,25 @@ named_at name k (line ∷ lines) rest = do
   gaps_at k lines rest
 
 -- the line of the version, and that of the name after it
-abbrev pub text_at : List ℕ → Kinds → List (List ℕ) → List ℕ → Result TrackCertificate LogFault
-text_at name k [] rest = Err fault.Cut
-text_at name k (line ∷ lines) rest = do
-  _ ← require (is_word line version_line) fault.Version
+abbrev pub text_at : Course → List ℕ → Kinds → List (List ℕ) → List ℕ → Result TrackCertificate LogFault
+text_at by name k [] rest = Err fault.Cut
+text_at by name k (line ∷ lines) rest = do
+  _ ← require (is_word line (version_line_by by)) fault.Version
   named_at name k lines rest
 
 -- the certificate of the bytes, or their first fault
-unfoldable pub certificate_of : List ℕ → List ℕ → Kinds → Result TrackCertificate LogFault
-certificate_of bytes name k = text_at name k (lines_in bytes) (behind bytes)
+unfoldable pub certificate_by : Course → List ℕ → List ℕ → Kinds → Result TrackCertificate LogFault
+certificate_by by bytes name k = text_at by name k (lines_in bytes) (behind bytes)
+
+-- the same where nets go straight
+abbrev pub certificate_of : List ℕ → List ℕ → Kinds → Result TrackCertificate LogFault
+certificate_of = certificate_by course.Straight
+
+-- the course that the first of the lines names
+abbrev pub course_at : List (List ℕ) → Course
+course_at [] = course.Straight
+course_at (line ∷ lines) =
+    if is_word line (version_line_by course.Turning) then course.Turning else course.Straight
+
+abbrev pub course_of : List ℕ → Course
+course_of bytes = course_at (lines_in bytes)

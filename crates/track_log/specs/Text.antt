@@ -7,14 +7,17 @@ use Rattle.row_cycles.specs.declared.above.NetAbove.{NetAbove}
 use Rattle.row_cycles.specs.declared.lemma.CycleLemma.{CycleLemma}
 use Rattle.track_ways.specs.declared.track.NetTrack.{NetTrack}
 use Rattle.track_ways.specs.declared.lemma.TrackLemma.{TrackLemma}
+use Rattle.track_log.specs.declared.certificate.Course.{Course}
+use Rattle.track_log.specs.declared.certificate.Course.TheVariants as course
 use Rattle.track_log.specs.declared.certificate.TrackCertificate.{TrackCertificate}
 
--- the first line, without its line feed
-abbrev pub version_line : List ℕ
-version_line = codes "cellgen-tracks 1"
+-- the first line, without its line feed: version 1 where nets go straight, version 2 where they may turn
+abbrev pub version_line_by : Course → List ℕ
+version_line_by course.Straight = codes "cellgen-tracks 1"
+version_line_by course.Turning = codes "cellgen-tracks 2"
 
-abbrev pub head_lines : List ℕ → List ℕ
-head_lines name = codes "cellgen-tracks 1\ncell " ++ name ++ codes "\n"
+abbrev pub head_lines : Course → List ℕ → List ℕ
+head_lines by name = version_line_by by ++ codes "\ncell " ++ name ++ codes "\n"
 
 abbrev pub tracks_line : ℕ → List ℕ
 tracks_line tracks = codes "tracks " ++ decimal tracks ++ codes "\n"
@@ -49,11 +52,15 @@ abbrev pub lemma_line : TrackLemma → List ℕ
 lemma_line lemma = fields_line (codes "lemma") lemma.gaps lemma.state (tracks_text lemma.tracks)
 
 -- the gaps that are allowed, the tracks that each such row needs, lemmas on cycles, those on tracks, and `end`
-abbrev pub certificate_text : List ℕ → TrackCertificate → List ℕ
-certificate_text name certificate =
-    head_lines name
+abbrev pub certificate_text_by : Course → List ℕ → TrackCertificate → List ℕ
+certificate_text_by by name certificate =
+    head_lines by name
     ++ gaps_line certificate.gaps
     ++ tracks_line certificate.tracks
     ++ flat_map cycle_line certificate.cycles
     ++ flat_map lemma_line certificate.lemmas
     ++ last_line
+
+-- the same where nets go straight
+abbrev pub certificate_text : List ℕ → TrackCertificate → List ℕ
+certificate_text = certificate_text_by course.Straight

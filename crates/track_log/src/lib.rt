@@ -3,6 +3,7 @@
 
 mod above;
 mod certificate;
+mod course;
 mod item;
 mod line;
 mod list;
@@ -10,6 +11,7 @@ mod read;
 mod tracks;
 mod write;
 
-pub use certificate::{MOST_TRACKS, TrackCertificate};
-pub use read::read_tracks;
-pub use write::write_tracks;
+pub use certificate::{Course, MOST_TRACKS, TrackCertificate};
+pub use course::course_of;
+pub use read::{read_tracks, read_tracks_by};
+pub use write::{write_tracks, write_tracks_by};

@@ -4,12 +4,13 @@ ghost use Rattle.bound_log.specs.declared.fault.LogFault.TheVariants as fault;
 ghost use Rattle.bound_log.specs.Fits.{IsLogName};
 ghost use Rattle.track_log.specs.declared.certificate.TrackCertificate.{TrackCertificate as CertificateOf};
 ghost use Rattle.track_log.specs.Fits.{CertificateFits};
-ghost use Rattle.track_log.specs.Reading.{certificate_of, count_at, cycles_at, gaps_at, lemmas_at};
+ghost use Rattle.track_log.specs.Reading.{certificate_by, certificate_of, count_at, cycles_at, gaps_at, lemmas_at};
 ghost use Rattle.track_log.specs.Reading.{named_at};
-ghost use Rattle.track_log.specs.Text.{certificate_text};
+ghost use Rattle.track_log.specs.Text.{certificate_text, certificate_text_by};
 
-use crate::TrackCertificate;
+use crate::course::version_line;
 use crate::line::{read_count, read_cycle, read_gaps, read_lemma};
+use crate::{Course, TrackCertificate};
 use bound_log::{LogFault, read_end};
 use cell_num::{MOST_BYTES, Name};
 use log_lines::{first_line, is_named, is_word};
@@ -153,30 +154,64 @@ fn read_named(
     Ok(certificate)
 }
 
-#[tactic(auto, unfolding(crate::specs::Reading::certificate_of))]
+#[tactic(auto, unfolding(crate::specs::Reading::certificate_by))]
 fn read_text(
     alloc: Global,
+    course: Course,
     bytes: &[u8],
     name: &Name,
     kinds: &Kinds,
 ) -> Result<TrackCertificate, LogFault>
     requires few { length bytes.now ≤ MOST_BYTES }
     ensures certificate { IfOk result (λ certificate.
-        certificate_of bytes.now name.now kinds.now ≡ Ok certificate) }
-    ensures fault { IfErr result (λ f. f ≢ fault.NoMemory → certificate_of bytes.now name.now kinds.now ≡ Err f) }
+        certificate_by course bytes.now name.now kinds.now ≡ Ok certificate) }
+    ensures fault { IfErr result (λ f. f ≢ fault.NoMemory →
+        certificate_by course bytes.now name.now kinds.now ≡ Err f) }
 {
     let Some(first) = first_line(bytes) else {
         return Err(LogFault::Cut);
     };
-    if !is_word(first.line, b"cellgen-tracks 1") {
+    if !is_word(first.line, version_line(course)) {
         return Err(LogFault::Version);
     }
     let certificate = read_named(alloc, first.after, name, kinds)?;
     Ok(certificate)
 }
 
-/// The certificate of which the bytes are the text, for the cell of that name and the kinds of its fingers. The name
-/// has 1 to 32 bytes and no line feed, and there are at most [`MOST_BYTES`] bytes.
+/// The certificate of which the bytes are the text of that course, for the cell of that name and the kinds of its
+/// fingers. The name has 1 to 32 bytes and no line feed, and there are at most [`MOST_BYTES`] bytes.
+pub fn read_tracks_by(
+    alloc: Global,
+    course: Course,
+    bytes: &[u8],
+    name: &Name,
+    kinds: &Kinds,
+) -> Result<TrackCertificate, LogFault>
+    requires name { IsLogName name.now }
+    requires few { length bytes.now ≤ MOST_BYTES }
+    // The certificate of the definition, or its first fault; memory may run out.
+    ensures certificate { IfOk result (λ certificate.
+        certificate_by course bytes.now name.now kinds.now ≡ Ok certificate) }
+    ensures fault { IfErr result (λ f. f ≢ fault.NoMemory →
+        certificate_by course bytes.now name.now kinds.now ≡ Err f) }
+
+    // The one certificate that fits and has these bytes as its text; or none has them.
+    ensures fits { IfOk result (λ certificate. CertificateFits kinds.now certificate) }
+    ensures text { IfOk result (λ certificate. bytes.now ≡ certificate_text_by course name.now certificate) }
+    ensures one { IfOk result (λ certificate. (other : CertificateOf) → CertificateFits kinds.now other →
+        certificate_text_by course name.now other ≡ bytes.now → other ≡ certificate) }
+    ensures few { IfOk result (λ certificate.
+        length certificate.cycles + length certificate.lemmas ≤ length bytes.now) }
+    ensures none { IfErr result (λ f. f ≢ fault.NoMemory → (certificate : CertificateOf) →
+        CertificateFits kinds.now certificate → certificate_text_by course name.now certificate ≢ bytes.now) }
+{
+    kinds.show_limits();
+    let certificate = read_text(alloc, course, bytes, name, kinds)?;
+    Ok(certificate)
+}
+
+/// The certificate of which the bytes are the text where nets go straight, for the cell of that name and the kinds of
+/// its fingers. The name has 1 to 32 bytes and no line feed, and there are at most [`MOST_BYTES`] bytes.
 pub fn read_tracks(
     alloc: Global,
     bytes: &[u8],
@@ -200,7 +235,5 @@ pub fn read_tracks(
     ensures none { IfErr result (λ f. f ≢ fault.NoMemory → (certificate : CertificateOf) →
         CertificateFits kinds.now certificate → certificate_text name.now certificate ≢ bytes.now) }
 {
-    kinds.show_limits();
-    let certificate = read_text(alloc, bytes, name, kinds)?;
-    Ok(certificate)
+    read_tracks_by(alloc, Course::Straight, bytes, name, kinds)
 }

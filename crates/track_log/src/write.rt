@@ -5,13 +5,15 @@ ghost use Rattle.row_state.specs.Start.{AreSomeKinds};
 ghost use Rattle.bound_log.specs.Fits.{IsLogName};
 ghost use Rattle.bound_log.specs.Text.{gaps_line};
 ghost use Rattle.track_log.specs.Fits.{CertificateFits};
-ghost use Rattle.track_log.specs.Reading.{certificate_of};
+ghost use Rattle.track_log.specs.Reading.{certificate_by, certificate_of, course_of};
 ghost use Rattle.trail_log.specs.Spelling.{list_text};
-ghost use Rattle.track_log.specs.Text.{certificate_text, cycle_line, fields_line, head_lines, lemma_line, tracks_line};
+ghost use Rattle.track_log.specs.Text.{certificate_text, certificate_text_by, cycle_line, fields_line, head_lines};
+ghost use Rattle.track_log.specs.Text.{lemma_line, tracks_line};
 
-use crate::TrackCertificate;
+use crate::course::version_line;
 use crate::item::Item;
 use crate::list::put_list;
+use crate::{Course, TrackCertificate};
 use bound_log::put_state;
 use cell_num::{Bytes, Name, NoMemory, put_number};
 use row_cycles::CycleLemma;
@@ -19,10 +21,11 @@ use row_state::State;
 use std::alloc::Global;
 use track_ways::TrackLemma;
 
-fn put_head(out: &mut Bytes, name: &Name) -> Result<(), NoMemory>
-    ensures { OnOk result (out.new ≡ out.old ++ head_lines name.now) }
+fn put_head(out: &mut Bytes, course: Course, name: &Name) -> Result<(), NoMemory>
+    ensures { OnOk result (out.new ≡ out.old ++ head_lines course name.now) }
 {
-    out.extend(b"cellgen-tracks 1\ncell ")?;
+    out.extend(version_line(course))?;
+    out.extend(b"\ncell ")?;
     out.extend(name.as_slice())?;
     out.extend(b"\n")?;
     Ok(())
@@ -110,11 +113,16 @@ fn put_lemmas(out: &mut Bytes, lemmas: &[TrackLemma]) -> Result<(), NoMemory>
     Ok(())
 }
 
-fn text(alloc: Global, name: &Name, certificate: &TrackCertificate) -> Result<Bytes, NoMemory>
-    ensures { IfOk result (λ text. text ≡ certificate_text name.now certificate.now) }
+fn text(
+    alloc: Global,
+    course: Course,
+    name: &Name,
+    certificate: &TrackCertificate,
+) -> Result<Bytes, NoMemory>
+    ensures { IfOk result (λ text. text ≡ certificate_text_by course name.now certificate.now) }
 {
     let mut out = Bytes::new(alloc);
-    put_head(&mut out, name)?;
+    put_head(&mut out, course, name)?;
     put_gaps(&mut out, certificate.gaps)?;
     put_tracks(&mut out, certificate.tracks)?;
     put_cycles(&mut out, certificate.cycles.as_slice())?;
@@ -123,8 +131,26 @@ fn text(alloc: Global, name: &Name, certificate: &TrackCertificate) -> Result<By
     Ok(out)
 }
 
-/// The text of a certificate for the cell of that name, which has 1 to 32 bytes and no line feed. Reading it gives the
-/// same certificate, for all kinds that it fits.
+/// The text of a certificate of that course for the cell of that name, which has 1 to 32 bytes and no line feed. Its
+/// first line names the course, and reading it gives the same certificate, for all kinds that it fits.
+pub fn write_tracks_by(
+    alloc: Global,
+    course: Course,
+    name: &Name,
+    certificate: &TrackCertificate,
+) -> Result<Vec<u8>, NoMemory>
+    requires name { IsLogName name.now }
+    ensures text { IfOk result (λ bytes. bytes.items ≡ certificate_text_by course name.now certificate.now) }
+    ensures reads { IfOk result (λ bytes. (k : KindsOf) → AreSomeKinds k → CertificateFits k certificate.now →
+        certificate_by course bytes.items name.now k ≡ Ok certificate.now) }
+    ensures course { IfOk result (λ bytes. course_of bytes.items ≡ course) }
+{
+    let text = text(alloc, course, name, certificate)?;
+    Ok(text.into_vec())
+}
+
+/// The text of a certificate where nets go straight, for the cell of that name, which has 1 to 32 bytes and no line
+/// feed. Reading it gives the same certificate, for all kinds that it fits.
 pub fn write_tracks(
     alloc: Global,
     name: &Name,
@@ -135,6 +161,5 @@ pub fn write_tracks(
     ensures reads { IfOk result (λ bytes. (k : KindsOf) → AreSomeKinds k → CertificateFits k certificate.now →
         certificate_of bytes.items name.now k ≡ Ok certificate.now) }
 {
-    let text = text(alloc, name, certificate)?;
-    Ok(text.into_vec())
+    write_tracks_by(alloc, Course::Straight, name, certificate)
 }

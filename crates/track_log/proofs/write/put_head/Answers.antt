@@ -3,4 +3,4 @@ use Rattle.track_log.proofs.write.put_head.Goals as goal
 
 pub returns : goal.returns
 returns c =
-    rw (c.in_ok-extend-3.ensures.ok, c.in_ok-extend-2.ensures.ok, c.as_slice.ensures, c.in_ok-extend.ensures.ok) (head_apart c.args.out.now c.args.name.now)
+    rw (c.in_ok-extend-4.ensures.ok, c.in_ok-extend-3.ensures.ok, c.as_slice.ensures, c.in_ok-extend-2.ensures.ok, c.in_ok-extend.ensures.ok, c.version_line.ensures) (head_apart c.args.out.now c.args.name.now c.args.course)
