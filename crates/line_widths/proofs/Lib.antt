@@ -1,3 +1,7 @@
 mod Decided
 mod Spaced
 mod Found
+mod UnitLines
+mod AtLine
+mod OnLines
+mod OnPaths

@@ -1,2 +1,4 @@
 -- What contracts of public calls cite.
 pub mod Spaces
+pub mod Borders
+pub mod StateBorders
