@@ -1,5 +1,5 @@
 -- When next columns leave a lemma justified.
-use Rattle.std.proofs.Common.{ℕ, ◌≡◌, ◌-◌, ◌↔◌, ◌==◌, Bool, List, [], ◌∷◌, length, inl, inr, refl, sym, subst, arith, All, Any, Contains, ◌∙◌}
+use Rattle.std.proofs.Common.{ℕ, ◌≡◌, ◌↔◌, ◌==◌, Bool, List, [], ◌∷◌, length, inl, inr, refl, sym, subst, arith, All, Any, Contains, ◌∙◌}
 use Rattle.std.specs.Prelude.{IsTrue}
 use Rattle.std.proofs.lemmas.Bool.{eq-eqb, eqb-true}
 use Rattle.std.proofs.lemmas.List.{nil_from_length}
@@ -13,15 +13,15 @@ use Rattle.row_state.specs.declared.state.State.{State}
 use Rattle.row_state.specs.declared.step.Step.{Step}
 use Rattle.row_state.specs.Steps.{state_after}
 use Rattle.track_ways.specs.declared.track.NetTrack.{NetTrack}
-use Rattle.track_ways.specs.Ways.{goes_ways}
+use Rattle.track_ways.specs.Ways.{LineWays, goes_ways_by}
 use Rattle.track_ways.specs.declared.lemma.TrackLemma.{TrackLemma}
 use Rattle.track_ways.specs.Certificate.{CoversAll, NeedsMore}
 use Rattle.track_ways.specs.Checked.{CoversListed, IsRefutedListed}
-use Rattle.track_check.specs.Steps.{WaysFail}
+use Rattle.track_check.specs.Steps.{WaysFailBy}
 
 -- a state that needs more gaps is refuted whatever the tracks are
-pub more_fail : (value : Row → State → Kinds → ℕ) (pins : Pins) (limit : ℕ) (k : Kinds) (earlier : List TrackLemma) (lemma : TrackLemma) (step : Step) (left : ℕ) → NeedsMore value k (state_after k lemma.state step) left → WaysFail value pins limit k earlier lemma step left
-more_fail value pins limit k earlier lemma step left more = all_from_contains (IsRefutedListed value k earlier (state_after k lemma.state step) left) (goes_ways pins limit k lemma.state lemma.tracks step) (λ way there. inl more)
+pub more_fail : (ways : LineWays) (value : Row → State → Kinds → ℕ) (pins : Pins) (limit : ℕ) (k : Kinds) (earlier : List TrackLemma) (lemma : TrackLemma) (step : Step) (left : ℕ) → NeedsMore value k (state_after k lemma.state step) left → WaysFailBy ways value pins limit k earlier lemma step left
+more_fail ways value pins limit k earlier lemma step left more = all_from_contains (IsRefutedListed value k earlier (state_after k lemma.state step) left) (goes_ways_by ways pins limit k lemma.state lemma.tracks step) (λ way there. inl more)
 
 -- a lemma without tracks speaks of all tracks
 pub bare_covers : (s : State) (left : ℕ) (way : List NetTrack) (earlier : List TrackLemma) → Any (CoversListed s left []) earlier → Any (CoversListed s left way) earlier
@@ -33,13 +33,13 @@ bare_covers s left way earlier any =
       tracks = all_imply (Contains []) (Contains way) found.it.tracks (λ t none. absurd (omega (arith, none.1))) found.holds.tracks;
     })
 
-pub bare_fail : (value : Row → State → Kinds → ℕ) (pins : Pins) (limit : ℕ) (k : Kinds) (earlier : List TrackLemma) (lemma : TrackLemma) (step : Step) (left : ℕ) (s : State) → s ≡ state_after k lemma.state step → Any (CoversListed s left []) earlier → WaysFail value pins limit k earlier lemma step left
-bare_fail value pins limit k earlier lemma step left s after any = all_from_contains (IsRefutedListed value k earlier (state_after k lemma.state step) left) (goes_ways pins limit k lemma.state lemma.tracks step) (λ way there.
+pub bare_fail : (ways : LineWays) (value : Row → State → Kinds → ℕ) (pins : Pins) (limit : ℕ) (k : Kinds) (earlier : List TrackLemma) (lemma : TrackLemma) (step : Step) (left : ℕ) (s : State) → s ≡ state_after k lemma.state step → Any (CoversListed s left []) earlier → WaysFailBy ways value pins limit k earlier lemma step left
+bare_fail ways value pins limit k earlier lemma step left s after any = all_from_contains (IsRefutedListed value k earlier (state_after k lemma.state step) left) (goes_ways_by ways pins limit k lemma.state lemma.tracks step) (λ way there.
     inr (subst (λ z. Any (CoversListed z left way) earlier) after (bare_covers s left way earlier any)))
 
 -- no tracks go through a crowded line
-pub crowded_fail : (value : Row → State → Kinds → ℕ) (pins : Pins) (limit : ℕ) (k : Kinds) (earlier : List TrackLemma) (lemma : TrackLemma) (step : Step) (left : ℕ) → goes_ways pins limit k lemma.state lemma.tracks step ≡ [] → WaysFail value pins limit k earlier lemma step left
-crowded_fail value pins limit k earlier lemma step left none = subst (All (IsRefutedListed value k earlier (state_after k lemma.state step) left)) (sym none) (All-nil (IsRefutedListed value k earlier (state_after k lemma.state step) left))
+pub crowded_fail : (ways : LineWays) (value : Row → State → Kinds → ℕ) (pins : Pins) (limit : ℕ) (k : Kinds) (earlier : List TrackLemma) (lemma : TrackLemma) (step : Step) (left : ℕ) → goes_ways_by ways pins limit k lemma.state lemma.tracks step ≡ [] → WaysFailBy ways value pins limit k earlier lemma step left
+crowded_fail ways value pins limit k earlier lemma step left none = subst (All (IsRefutedListed value k earlier (state_after k lemma.state step) left)) (sym none) (All-nil (IsRefutedListed value k earlier (state_after k lemma.state step) left))
 
 refuted_known : (value : Row → State → Kinds → ℕ) (k : Kinds) (earlier : List TrackLemma) (s : State) (left : ℕ) (way : List NetTrack) → (NeedsMore value k s left → ⊥) → IsRefutedListed value k earlier s left way → Any (CoversListed s left way) earlier
 refuted_known value k earlier s left way few (inl more) = absurd (few more)
@@ -61,12 +61,12 @@ bare_is_all s gaps lemmas = (
 )
 
 -- else earlier lemmas must speak of it
-pub known_fail : (value : Row → State → Kinds → ℕ) (pins : Pins) (limit : ℕ) (k : Kinds) (earlier : List TrackLemma) (lemma : TrackLemma) (step : Step) (left : ℕ) (s : State) (ways : List (List NetTrack)) (known : Bool) → s ≡ state_after k lemma.state step → ways ≡ goes_ways pins limit k lemma.state lemma.tracks step → (NeedsMore value k s left → ⊥) → IsTrue known ↔ All (λ way. Any (CoversListed s left way) earlier) ways → IsTrue known ↔ WaysFail value pins limit k earlier lemma step left
-known_fail value pins limit k earlier lemma step left s ways known after are few decides = (
-  λ yes. all_from_contains (IsRefutedListed value k earlier (state_after k lemma.state step) left) (goes_ways pins limit k lemma.state lemma.tracks step) (λ way there.
-      inr (subst (λ z. Any (CoversListed z left way) earlier) after (All-contains (λ way. Any (CoversListed s left way) earlier) ways way (decides.0 yes) (subst (λ ws. Contains ws way) (sym are) there)))),
-  λ fail. decides.1 (all_from_contains (λ way. Any (CoversListed s left way) earlier) ways (λ way there.
-      refuted_known value k earlier s left way few (subst (λ z. IsRefutedListed value k earlier z left way) (sym after) (All-contains (IsRefutedListed value k earlier (state_after k lemma.state step) left) (goes_ways pins limit k lemma.state lemma.tracks step) way fail (subst (λ ws. Contains ws way) are there))))),
+pub known_fail : (ways : LineWays) (value : Row → State → Kinds → ℕ) (pins : Pins) (limit : ℕ) (k : Kinds) (earlier : List TrackLemma) (lemma : TrackLemma) (step : Step) (left : ℕ) (s : State) (lists : List (List NetTrack)) (known : Bool) → s ≡ state_after k lemma.state step → lists ≡ goes_ways_by ways pins limit k lemma.state lemma.tracks step → (NeedsMore value k s left → ⊥) → IsTrue known ↔ All (λ way. Any (CoversListed s left way) earlier) lists → IsTrue known ↔ WaysFailBy ways value pins limit k earlier lemma step left
+known_fail ways value pins limit k earlier lemma step left s lists known after are few decides = (
+  λ yes. all_from_contains (IsRefutedListed value k earlier (state_after k lemma.state step) left) (goes_ways_by ways pins limit k lemma.state lemma.tracks step) (λ way there.
+      inr (subst (λ z. Any (CoversListed z left way) earlier) after (All-contains (λ way. Any (CoversListed s left way) earlier) lists way (decides.0 yes) (subst (λ ws. Contains ws way) (sym are) there)))),
+  λ fail. decides.1 (all_from_contains (λ way. Any (CoversListed s left way) earlier) lists (λ way there.
+      refuted_known value k earlier s left way few (subst (λ z. IsRefutedListed value k earlier z left way) (sym after) (All-contains (IsRefutedListed value k earlier (state_after k lemma.state step) left) (goes_ways_by ways pins limit k lemma.state lemma.tracks step) way fail (subst (λ ws. Contains ws way) are there))))),
 )
 
 pub no_ways : {X : Type 0} (xs : List X) (n : ℕ) → n ≡ length xs → IsTrue (n == 0) ↔ (xs ≡ [])

@@ -7,7 +7,6 @@ ghost use Rattle.row_place.specs.Places.{placement_of};
 ghost use Rattle.channel_route.specs.declared.routing.Routing.{Routing};
 ghost use Rattle.channel_route.specs.Routing.{IsLegal};
 ghost use Rattle.row_state.specs.Start.{AreKinds};
-ghost use Rattle.bound_log.specs.declared.fault.LogFault.TheVariants as log;
 ghost use Rattle.bound_log.specs.Fits.{IsLogName};
 ghost use Rattle.track_check.specs.declared.accept.TracksProved.{TracksProved as ProvedOf};
 ghost use Rattle.track_check.specs.declared.rejected.TextRejected.TheVariants as because;
@@ -15,7 +14,6 @@ ghost use Rattle.track_check.specs.Accepted.{IsAccepted, Rejects};
 
 use crate::TextRejected;
 use crate::certify::certify;
-use bound_log::LogFault;
 use cell_num::{MOST_BYTES, Name, Pins};
 use row_needs::GapBound;
 use row_state::Kinds;
@@ -27,15 +25,6 @@ use track_log::read_tracks;
 pub struct TracksProved {
     pub gaps: u32,
     pub tracks: u32,
-}
-
-fn because_of(fault: LogFault) -> TextRejected
-    ensures { result ≢ because.NoMemory → (result ≡ because.Text fault) × (fault ≢ log.NoMemory) }
-{
-    match fault {
-        LogFault::NoMemory => TextRejected::NoMemory,
-        _ => TextRejected::Text { fault },
-    }
 }
 
 // The verdict on a text.
@@ -58,7 +47,7 @@ fn judge<B: GapBound>(
 {
     let certificate = match read_tracks(alloc, bytes, name, kinds) {
         Ok(certificate) => certificate,
-        Err(fault) => return Err(because_of(fault)),
+        Err(fault) => return Err(TextRejected::of_fault(fault)),
     };
     certify(alloc, bound, pins, kinds, &certificate)?;
     Ok(TracksProved {

@@ -26,8 +26,8 @@ use row_state::Kinds;
 use std::alloc::Global;
 use track_log::TrackCertificate;
 
-// The line of a lemma, by its place among all.
-fn line_of(at: usize) -> u32
+/// The line of a lemma in a text, by its place among all.
+pub fn line_of(at: usize) -> u32
     requires { at ≤ MOST_BYTES }
     ensures { result ≡ at + 5 }
 {

@@ -4,9 +4,9 @@ ghost use Rattle.row_state.specs.Candidates.{AreCandidates, IsNumbered};
 ghost use Rattle.row_state.specs.Start.{HasFingers, IsState, start_of};
 ghost use Rattle.track_ways.specs.States.{is_behind};
 ghost use Rattle.track_ways.specs.Tables.{marked};
-ghost use Rattle.track_ways.specs.Ways.{ends_ways};
-ghost use Rattle.track_ways.specs.Certificate.{IsJustified, IsValid};
-ghost use Rattle.track_ways.specs.Checked.{BranchesListed, IsJustifiedListed};
+ghost use Rattle.track_ways.specs.Ways.{ends_ways_by};
+ghost use Rattle.track_ways.specs.Certificate.{IsJustifiedBy, IsValid};
+ghost use Rattle.track_ways.specs.Checked.{BranchesListedBy, IsJustifiedListedBy};
 ghost use Rattle.track_check.specs.Noted.{AreNoted};
 ghost use Rattle.track_check.specs.Touches.{AreTouches};
 
@@ -18,7 +18,7 @@ use row_needs::GapBound;
 use row_state::{Candidates, Kinds, Numbered, has_fingers, is_state};
 use row_trails::NETS;
 use std::alloc::Global;
-use track_ways::{TrackLemma, TrackWays, end_uncrowded, last_ways};
+use track_ways::{TrackLemma, TrackRule, TrackWays, end_uncrowded, ways_at_end};
 
 /// What lemmas on tracks may rest on beside earlier ones: the cell, the number of tracks, all columns that may ever
 /// come next, a bound on gaps, and how often the start state touches each net.
@@ -41,7 +41,7 @@ fn is_empty(ways: &TrackWays) -> bool
 }
 
 // Whether a finger is left, or no tracks go through the last line. None go through a crowded one.
-fn end_fails<B: GapBound>(
+fn end_fails<R: TrackRule, B: GapBound>(
     alloc: Global,
     grounds: &TrackGrounds<B>,
     lemma: &TrackLemma,
@@ -50,9 +50,10 @@ fn end_fails<B: GapBound>(
     requires valid { IsState grounds.now.kinds.now lemma.now.state }
     requires before { marked before.now ≡ is_behind grounds.now.kinds.now lemma.now.state }
     ensures { IfOk result (λ fails. IsTrue fails ↔ ((HasFingers grounds.now.kinds.now lemma.now.state → ⊥)
-        → ends_ways grounds.now.pins.now grounds.now.limit grounds.now.kinds.now lemma.now.state lemma.now.tracks
-        ≡ [])) }
+        → ends_ways_by R.ways grounds.now.pins.now grounds.now.limit grounds.now.kinds.now lemma.now.state
+        lemma.now.tracks ≡ [])) }
 {
+    grounds.kinds.show_limits();
     let (pins, limit, kinds, state) = (grounds.pins, grounds.limit, grounds.kinds, &lemma.state);
     if has_fingers(state) {
         return Ok(true);
@@ -60,12 +61,12 @@ fn end_fails<B: GapBound>(
     if !end_uncrowded(alloc, pins, limit, kinds, state, before)? {
         return Ok(true);
     }
-    let ways = last_ways(alloc, pins, limit, kinds, state, before, &lemma.tracks)?;
+    let ways = ways_at_end::<R>(alloc, pins, limit, kinds, state, before, &lemma.tracks)?;
     Ok(is_empty(&ways))
 }
 
 // Whether each next column leaves the lemma justified, and the end of a row does.
-fn branches<B: GapBound>(
+fn branches<R: TrackRule, B: GapBound>(
     alloc: Global,
     grounds: &TrackGrounds<B>,
     earlier: &NotedLemmas,
@@ -78,18 +79,18 @@ fn branches<B: GapBound>(
     requires state { from.now.state ≡ lemma.now.state }
     requires before { marked before.now ≡ is_behind grounds.now.kinds.now lemma.now.state }
     requires noted { AreNoted grounds.now.kinds.now earlier.now.lemmas.now earlier.now.places.now }
-    ensures { IfOk result (λ fail. IsTrue fail ↔ BranchesListed (B.value grounds.now.bound.now) grounds.now.pins.now
-        grounds.now.limit grounds.now.kinds.now earlier.now.lemmas.now lemma.now) }
+    ensures { IfOk result (λ fail. IsTrue fail ↔ BranchesListedBy R.ways (B.value grounds.now.bound.now)
+        grounds.now.pins.now grounds.now.limit grounds.now.kinds.now earlier.now.lemmas.now lemma.now) }
 {
-    if !end_fails(alloc, grounds, lemma, before)? {
+    if !end_fails::<R, B>(alloc, grounds, lemma, before)? {
         return Ok(false);
     }
-    let fail = steps_fail(alloc, grounds, earlier, lemma, from, before)?;
+    let fail = steps_fail::<R, B>(alloc, grounds, earlier, lemma, from, before)?;
     Ok(fail)
 }
 
 // Whether the lemma of a valid state is justified.
-fn is_justified_at<B: GapBound>(
+fn is_justified_at<R: TrackRule, B: GapBound>(
     alloc: Global,
     grounds: &TrackGrounds<B>,
     earlier: &NotedLemmas,
@@ -99,8 +100,8 @@ fn is_justified_at<B: GapBound>(
     requires all { AreTouches grounds.now.kinds.now (start_of grounds.now.kinds.now) grounds.now.all.now }
     requires valid { IsState grounds.now.kinds.now lemma.now.state }
     requires noted { AreNoted grounds.now.kinds.now earlier.now.lemmas.now earlier.now.places.now }
-    ensures { IfOk result (λ yes. IsTrue yes ↔ IsJustifiedListed (B.value grounds.now.bound.now) grounds.now.pins.now
-        grounds.now.limit grounds.now.kinds.now earlier.now.lemmas.now lemma.now) }
+    ensures { IfOk result (λ yes. IsTrue yes ↔ IsJustifiedListedBy R.ways (B.value grounds.now.bound.now)
+        grounds.now.pins.now grounds.now.limit grounds.now.kinds.now earlier.now.lemmas.now lemma.now) }
 {
     let kinds = grounds.kinds;
     let here = touches(kinds, &lemma.state);
@@ -113,12 +114,12 @@ fn is_justified_at<B: GapBound>(
         return Ok(true);
     }
     let nets = state_nets(grounds.all, &here);
-    let fail = branches(alloc, grounds, earlier, lemma, &from, &nets.before)?;
+    let fail = branches::<R, B>(alloc, grounds, earlier, lemma, &from, &nets.before)?;
     Ok(fail)
 }
 
-/// Whether the lemma is justified by the earlier ones.
-pub fn is_justified<B: GapBound>(
+/// Whether the lemma is justified by the earlier ones, by the rule.
+pub fn is_justified<R: TrackRule, B: GapBound>(
     alloc: Global,
     grounds: &TrackGrounds<B>,
     earlier: &NotedLemmas,
@@ -127,17 +128,17 @@ pub fn is_justified<B: GapBound>(
     requires candidates { AreCandidates grounds.now.kinds.now grounds.now.candidates.now }
     requires all { AreTouches grounds.now.kinds.now (start_of grounds.now.kinds.now) grounds.now.all.now }
     requires noted { AreNoted grounds.now.kinds.now earlier.now.lemmas.now earlier.now.places.now }
-    ensures listed { IfOk result (λ yes. IsTrue yes ↔ IsJustifiedListed (B.value grounds.now.bound.now)
+    ensures listed { IfOk result (λ yes. IsTrue yes ↔ IsJustifiedListedBy R.ways (B.value grounds.now.bound.now)
         grounds.now.pins.now grounds.now.limit grounds.now.kinds.now earlier.now.lemmas.now lemma.now) }
     ensures justified { IfOk result (λ yes.
         All (IsValid grounds.now.pins.now grounds.now.kinds.now) earlier.now.lemmas.now →
-        (IsTrue yes ↔ IsJustified (B.value grounds.now.bound.now) grounds.now.pins.now grounds.now.limit
+        (IsTrue yes ↔ IsJustifiedBy R.fits (B.value grounds.now.bound.now) grounds.now.pins.now grounds.now.limit
         grounds.now.kinds.now earlier.now.lemmas.now lemma.now)) }
 {
     grounds.kinds.show_limits();
     if !is_state(&lemma.state, grounds.kinds) {
         return Ok(false);
     }
-    let justified = is_justified_at(alloc, grounds, earlier, lemma)?;
+    let justified = is_justified_at::<R, B>(alloc, grounds, earlier, lemma)?;
     Ok(justified)
 }

@@ -15,7 +15,8 @@ mod steps;
 mod valid;
 
 pub use accept::{TracksProved, check_text};
-pub use check::check_tracks;
+pub use certify::line_of;
+pub use check::{check_tracks, check_tracks_by};
 pub use counts::touches;
 pub use known::{NotedLemmas, lists};
 pub use lemma::{TrackGrounds, is_justified};

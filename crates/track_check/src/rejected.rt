@@ -1,4 +1,6 @@
-ghost use Rattle.std.specs.Prelude.{◌≡◌};
+ghost use Rattle.std.specs.Prelude.{◌≡◌, ◌≢◌};
+ghost use Rattle.bound_log.specs.declared.fault.LogFault.TheVariants as log;
+ghost use Rattle.track_check.specs.declared.rejected.TextRejected.TheVariants as because;
 
 use bound_log::LogFault;
 use cell_num::NoMemory;
@@ -18,6 +20,18 @@ pub enum TextRejected {
     NoStart,
     #[error("NoMemory")]
     NoMemory,
+}
+
+impl TextRejected {
+    /// The cause that a text has the fault.
+    pub fn of_fault(fault: LogFault) -> TextRejected
+        ensures { result ≢ because.NoMemory → (result ≡ because.Text fault) × (fault ≢ log.NoMemory) }
+    {
+        match fault {
+            LogFault::NoMemory => TextRejected::NoMemory,
+            _ => TextRejected::Text { fault },
+        }
+    }
 }
 
 impl From<NoMemory> for TextRejected {

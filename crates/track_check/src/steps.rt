@@ -6,7 +6,7 @@ ghost use Rattle.row_state.specs.Steps.{IsPossible};
 ghost use Rattle.track_ways.specs.States.{is_behind};
 ghost use Rattle.track_ways.specs.Tables.{marked};
 ghost use Rattle.track_check.specs.Noted.{AreNoted};
-ghost use Rattle.track_check.specs.Steps.{StepFailsListed, WaysFail};
+ghost use Rattle.track_check.specs.Steps.{StepFailsListedBy, WaysFailBy};
 
 use crate::{NotedLemmas, TrackGrounds, nets_ahead, touches};
 use cell_num::NoMemory;
@@ -15,11 +15,11 @@ use row_needs::GapBound;
 use row_state::{Candidate, Numbered};
 use row_trails::NETS;
 use std::alloc::Global;
-use track_ways::{TrackLemma, step_uncrowded, step_ways};
+use track_ways::{TrackLemma, TrackRule, step_uncrowded, ways_after};
 
 // Whether all listed tracks after the column are refuted, with that many gaps left. They are where a lemma is about
 // the state and of any tracks, and where a line to the column is crowded.
-fn ways_fail<B: GapBound>(
+fn ways_fail<R: TrackRule, B: GapBound>(
     alloc: Global,
     grounds: &TrackGrounds<B>,
     earlier: &NotedLemmas,
@@ -35,10 +35,12 @@ fn ways_fail<B: GapBound>(
     requires next { IsCandidate grounds.now.kinds.now next.now }
     requires step { IsPossible grounds.now.kinds.now lemma.now.state next.now.step }
     requires noted { AreNoted grounds.now.kinds.now earlier.now.lemmas.now earlier.now.places.now }
-    ensures { IfOk result (λ fail. IsTrue fail ↔ WaysFail (B.value grounds.now.bound.now) grounds.now.pins.now
-        grounds.now.limit grounds.now.kinds.now earlier.now.lemmas.now lemma.now next.now.step left) }
+    ensures { IfOk result (λ fail. IsTrue fail ↔ WaysFailBy R.ways (B.value grounds.now.bound.now)
+        grounds.now.pins.now grounds.now.limit grounds.now.kinds.now earlier.now.lemmas.now lemma.now next.now.step
+        left) }
 {
     let kinds = grounds.kinds;
+    kinds.show_limits();
     let after = from.behind(alloc, kinds, next)?;
     if grounds.bound.needs_more(kinds, &after, left) {
         return Ok(true);
@@ -52,7 +54,7 @@ fn ways_fail<B: GapBound>(
     if !step_uncrowded(alloc, pins, limit, kinds, state, before, &next.step, &ahead)? {
         return Ok(true);
     }
-    let ways = step_ways(
+    let ways = ways_after::<R>(
         alloc,
         pins,
         limit,
@@ -67,7 +69,7 @@ fn ways_fail<B: GapBound>(
 }
 
 // Whether the column leaves the lemma justified.
-fn step_fails<B: GapBound>(
+fn step_fails<R: TrackRule, B: GapBound>(
     alloc: Global,
     grounds: &TrackGrounds<B>,
     earlier: &NotedLemmas,
@@ -81,19 +83,19 @@ fn step_fails<B: GapBound>(
     requires before { marked before.now ≡ is_behind grounds.now.kinds.now lemma.now.state }
     requires next { IsCandidate grounds.now.kinds.now next.now }
     requires noted { AreNoted grounds.now.kinds.now earlier.now.lemmas.now earlier.now.places.now }
-    ensures { IfOk result (λ fails. IsTrue fails ↔ StepFailsListed (B.value grounds.now.bound.now) grounds.now.pins.now
-        grounds.now.limit grounds.now.kinds.now earlier.now.lemmas.now lemma.now next.now.step) }
+    ensures { IfOk result (λ fails. IsTrue fails ↔ StepFailsListedBy R.ways (B.value grounds.now.bound.now)
+        grounds.now.pins.now grounds.now.limit grounds.now.kinds.now earlier.now.lemmas.now lemma.now next.now.step) }
 {
     let Some(left) = left_after(from, grounds.kinds, next, lemma.gaps) else {
         return Ok(true);
     };
-    let fail = ways_fail(alloc, grounds, earlier, lemma, from, before, next, left)?;
+    let fail = ways_fail::<R, B>(alloc, grounds, earlier, lemma, from, before, next, left)?;
     Ok(fail)
 }
 
 // Whether each next column leaves the lemma justified.
 #[tactic(auto, using(row_cycles::proofs::Left::candidate_is))]
-pub(crate) fn steps_fail<B: GapBound>(
+pub(crate) fn steps_fail<R: TrackRule, B: GapBound>(
     alloc: Global,
     grounds: &TrackGrounds<B>,
     earlier: &NotedLemmas,
@@ -106,11 +108,12 @@ pub(crate) fn steps_fail<B: GapBound>(
     requires state { from.now.state ≡ lemma.now.state }
     requires before { marked before.now ≡ is_behind grounds.now.kinds.now lemma.now.state }
     requires noted { AreNoted grounds.now.kinds.now earlier.now.lemmas.now earlier.now.places.now }
-    ensures { IfOk result (λ fail. IsTrue fail ↔ ((step : StepOf) → StepFailsListed (B.value grounds.now.bound.now)
-        grounds.now.pins.now grounds.now.limit grounds.now.kinds.now earlier.now.lemmas.now lemma.now step)) }
+    ensures { IfOk result (λ fail. IsTrue fail ↔ ((step : StepOf) → StepFailsListedBy R.ways
+        (B.value grounds.now.bound.now) grounds.now.pins.now grounds.now.limit grounds.now.kinds.now
+        earlier.now.lemmas.now lemma.now step)) }
 {
     for next in grounds.candidates.as_slice() {
-        if !step_fails(alloc, grounds, earlier, lemma, from, before, next)? {
+        if !step_fails::<R, B>(alloc, grounds, earlier, lemma, from, before, next)? {
             return Ok(false);
         }
     }

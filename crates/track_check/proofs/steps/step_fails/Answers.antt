@@ -4,7 +4,7 @@ use Rattle.row_state.specs.Steps.{IsPossible, column_of}
 use Rattle.row_cycles.specs.Next.{IfLeft}
 use Rattle.row_cycles.proofs.Left.{one_decides}
 use Rattle.row_cycles.proofs.Loops.{yes_from}
-use Rattle.track_check.specs.Steps.{WaysFail}
+use Rattle.track_check.specs.Steps.{WaysFailBy}
 use Rattle.track_check.proofs.steps.step_fails.Goals as goal
 
 pub returns-in_default : goal.returns-in_default
@@ -30,7 +30,7 @@ pub returns : goal.returns
 returns g c =
     one_decides c.args.grounds.now.kinds.now c.args.lemma.now.state c.args.lemma.now.gaps c.args.next.now.step
     c.in-Some.left
-    (WaysFail (g.B.GapBound.value c.args.grounds.now.bound.now) c.args.grounds.now.pins.now
+    (WaysFailBy g.R.TrackRule.ways (g.B.GapBound.value c.args.grounds.now.bound.now) c.args.grounds.now.pins.now
     c.args.grounds.now.limit c.args.grounds.now.kinds.now c.args.earlier.now.lemmas.now c.args.lemma.now
     c.args.next.now.step)
     c.in_ok-fail.fail
