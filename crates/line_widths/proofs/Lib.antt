@@ -5,3 +5,4 @@ mod UnitLines
 mod AtLine
 mod OnLines
 mod OnPaths
+mod Wide

@@ -5,6 +5,7 @@ use Rattle.std.proofs.lemmas.List.Elements.{Contains-append_cases}
 use Rattle.cell_num.specs.declared.net.NetNo.{NetNo}
 use Rattle.cell_num.specs.declared.net.Pins.{Pins}
 use Rattle.cell_num.proofs.Lists.{contains_here, contains_option, contains_there}
+use Rattle.row_model.specs.declared.column.Column.{Column}
 use Rattle.row_place.specs.Places.{placement_of}
 use Rattle.channel_route.specs.declared.routing.Trunk.{Trunk}
 use Rattle.row_compact.specs.Allowed.{stretches_of}
@@ -35,17 +36,27 @@ or_assoc : (a b c : Bool) → ((a || b) || c) ≡ (a || (b || c))
 or_assoc true b c = refl
 or_assoc false b c = refl
 
+-- the nets with a place after a line of the first part
+pub ahead_parted : (xs ys : List Line) (after : NetNo → Bool) → ◌≡◌ {A = NetNo → Bool} (λ net. is_ahead (xs ++ ys) net || after net) (λ net. is_ahead xs net || (is_ahead ys net || after net))
+ahead_parted xs ys after = same_tests (λ net. is_ahead (xs ++ ys) net || after net) (λ net. is_ahead xs net || (is_ahead ys net || after net)) (λ net. ap (λ t. t || after net) (ahead_append xs ys net) ∙ or_assoc (is_ahead xs net) (is_ahead ys net) (after net))
+
 -- lines one part after the other
 borders_append : (pins : Pins) (track : NetNo → ℕ) (before : NetNo → Bool) (xs ys : List Line) (after : NetNo → Bool) →
     borders_of pins track before (xs ++ ys) after ≡ borders_of pins track before xs (λ net. is_ahead ys net || after net) ++ borders_of pins track (with_lines before xs) ys after
 borders_append pins track before [] ys after = ap (λ (t : NetNo → Bool). borders_of pins track t ys after) (sym (no_lines before))
 borders_append pins track before (x ∷ xs) ys after =
     ap (λ bs. border_of pins track before x (λ net. is_ahead (xs ++ ys) net || after net) ∷ bs) (borders_append pins track (with_line before x) xs ys after)
-    ∙ ap (λ (t : NetNo → Bool). border_of pins track before x t ∷ (borders_of pins track (with_line before x) xs (λ net. is_ahead ys net || after net) ++ borders_of pins track (with_lines (with_line before x) xs) ys after)) later
+    ∙ ap (λ (t : NetNo → Bool). border_of pins track before x t ∷ (borders_of pins track (with_line before x) xs (λ net. is_ahead ys net || after net) ++ borders_of pins track (with_lines (with_line before x) xs) ys after)) (ahead_parted xs ys after)
     ∙ ap (λ (t : NetNo → Bool). border_of pins track before x (λ net. is_ahead xs net || (is_ahead ys net || after net)) ∷ (borders_of pins track (with_line before x) xs (λ net. is_ahead ys net || after net) ++ borders_of pins track t ys after)) (sym (one_more before x xs))
-  where
-    later : ◌≡◌ {A = NetNo → Bool} (λ net. is_ahead (xs ++ ys) net || after net) (λ net. is_ahead xs net || (is_ahead ys net || after net))
-    later = same_tests (λ net. is_ahead (xs ++ ys) net || after net) (λ net. is_ahead xs net || (is_ahead ys net || after net)) (λ net. ap (λ t. t || after net) (ahead_append xs ys net) ∙ or_assoc (is_ahead xs net) (is_ahead ys net) (after net))
+
+-- the nets with a place after a next column, and those before the state after it
+pub ahead_next : (k : Kinds) (s : State) (step : Step) (cs : List Column) → Completes k (state_after k s step) cs →
+    ◌≡◌ {A = NetNo → Bool} (λ net. is_ahead (lines_behind (state_after k s step).p_end (state_after k s step).n_end cs) net || false) (is_still_ahead k (state_after k s step))
+ahead_next k s step cs after = same_tests _ (is_still_ahead k (state_after k s step)) (λ net. or_none (is_ahead (lines_behind (state_after k s step).p_end (state_after k s step).n_end cs) net) ∙ ahead_of_state k cs (state_after k s step) net after)
+
+pub behind_next : (k : Kinds) (s : State) (step : Step) (cs : List Column) → Completes k s (column_of k step ∷ cs) → Completes k (state_after k s step) cs → EndsFit k s →
+    with_lines (is_behind k s) (lines_to s (column_of k step)) ≡ is_behind k (state_after k s step)
+behind_next k s step cs whole after fit = same_tests (with_lines (is_behind k s) (lines_to s (column_of k step))) (is_behind k (state_after k s step)) (λ net. behind_after k s step cs net whole after fit)
 
 -- along the path they are those of the lines
 on_path : (pins : Pins) (k : Kinds) (s : State) (track : NetNo → ℕ) (steps : List Step) → GatesAreNets k → Leads k s steps → EndsFit k s →
@@ -54,8 +65,8 @@ on_path pins k s track [] nets leads fit = refl
 on_path pins k s track (step ∷ steps) nets leads fit =
     ap (λ ls. borders_of pins track (is_behind k s) ls (λ net. false)) (parted k s step (map (column_of k) steps))
     ∙ borders_append pins track (is_behind k s) (lines_to s (column_of k step)) (lines_behind (state_after k s step).p_end (state_after k s step).n_end (map (column_of k) steps)) (λ net. false)
-    ∙ ap (λ (t : NetNo → Bool). borders_of pins track (is_behind k s) (lines_to s (column_of k step)) t ++ borders_of pins track (with_lines (is_behind k s) (lines_to s (column_of k step))) (lines_behind (state_after k s step).p_end (state_after k s step).n_end (map (column_of k) steps)) (λ net. false)) ahead
-    ∙ ap (λ (t : NetNo → Bool). borders_to pins k s track step ++ borders_of pins track t (lines_behind (state_after k s step).p_end (state_after k s step).n_end (map (column_of k) steps)) (λ net. false)) before
+    ∙ ap (λ (t : NetNo → Bool). borders_of pins track (is_behind k s) (lines_to s (column_of k step)) t ++ borders_of pins track (with_lines (is_behind k s) (lines_to s (column_of k step))) (lines_behind (state_after k s step).p_end (state_after k s step).n_end (map (column_of k) steps)) (λ net. false)) (ahead_next k s step (map (column_of k) steps) after)
+    ∙ ap (λ (t : NetNo → Bool). borders_to pins k s track step ++ borders_of pins track t (lines_behind (state_after k s step).p_end (state_after k s step).n_end (map (column_of k) steps)) (λ net. false)) (behind_next k s step (map (column_of k) steps) whole after fit)
     ∙ ap (λ bs. borders_to pins k s track step ++ bs) (on_path pins k (state_after k s step) track steps nets leads.1 (ends_after k s step (map (column_of k) steps) whole after fit))
   where
     after : Completes k (state_after k s step) (map (column_of k) steps)
@@ -63,12 +74,6 @@ on_path pins k s track (step ∷ steps) nets leads fit =
 
     whole : Completes k s (column_of k step ∷ map (column_of k) steps)
     whole = unfold_from k s step (map (column_of k) steps) nets leads.0 after
-
-    ahead : ◌≡◌ {A = NetNo → Bool} (λ net. is_ahead (lines_behind (state_after k s step).p_end (state_after k s step).n_end (map (column_of k) steps)) net || false) (is_still_ahead k (state_after k s step))
-    ahead = same_tests _ (is_still_ahead k (state_after k s step)) (λ net. or_none (is_ahead (lines_behind (state_after k s step).p_end (state_after k s step).n_end (map (column_of k) steps)) net) ∙ ahead_of_state k (map (column_of k) steps) (state_after k s step) net after)
-
-    before : with_lines (is_behind k s) (lines_to s (column_of k step)) ≡ is_behind k (state_after k s step)
-    before = same_tests (with_lines (is_behind k s) (lines_to s (column_of k step))) (is_behind k (state_after k s step)) (λ net. behind_after k s step (map (column_of k) steps) net whole after fit)
 
 pub by_states : (pins : Pins) (k : Kinds) (steps : List Step) (track : NetNo → ℕ) (trunks : List Trunk) → GatesAreNets k → Leads k (start_of k) steps → length (map (column_of k) steps) ≤ 32 →
     AreTrunks (placement_of (map (column_of k) steps)) pins track trunks →

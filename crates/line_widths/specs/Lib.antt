@@ -2,3 +2,4 @@
 pub mod Spaces
 pub mod Borders
 pub mod StateBorders
+pub mod TooWide
