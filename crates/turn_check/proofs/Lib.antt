@@ -1,0 +1,2 @@
+pub mod NotAccepted
+pub mod Courses
