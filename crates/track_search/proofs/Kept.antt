@@ -1,13 +1,13 @@
 -- The lemmas that are kept of ways: their tracks in order, and why none follows from an earlier one.
-use Rattle.std.proofs.Common.{ℕ, Bool, true, not, ltb, ◌&&◌, ◌||◌, ◌≡◌, ◌<◌, ◌≤◌, ◌++◌, List, [], ◌∷◌, get_or, take, map, inl, inr, ap, subst, arith, All, Any, Contains, length-append}
-use Rattle.std.specs.List.{AllPairs, list_all, range_with_len}
-use Rattle.std.proofs.lemmas.Bool.{and_parts, ltb-true}
+use Rattle.std.proofs.Common.{ℕ, Bool, true, not, ◌&&◌, ◌||◌, ◌≡◌, ◌<◌, ◌≤◌, ◌++◌, List, [], ◌∷◌, get_or, length, take, map, inl, inr, refl, ap, subst, arith, All, Any, Contains, length-append}
+use Rattle.std.specs.List.{AllPairs, range_with_len}
+use Rattle.std.proofs.lemmas.Bool.{and_parts}
 use Rattle.std.proofs.lemmas.List.{get_or_append_left, take-append-le}
 use Rattle.std.proofs.lemmas.List.Elements.{All-contains, All-nil, Contains-append_cases, Contains-append_left}
 use Rattle.cell_num.specs.declared.finger.Row.{Row}
 use Rattle.cell_num.specs.declared.net.NetNo.{NetNo}
 use Rattle.cell_num.specs.declared.net.Pins.{Pins}
-use Rattle.cell_num.proofs.In.{Image, Piece, in_flat, in_map}
+use Rattle.cell_num.proofs.In.{Image, in_map}
 use Rattle.cell_num.proofs.Lists.{all_from_contains, all_imply, all_map, all_one, contains_none, contains_one}
 use Rattle.cell_num.proofs.Pairs.{Some', any_at, pairs_append, pairs_map, some_from_any}
 use Rattle.row_state.specs.declared.kind.Kinds.{Kinds}
@@ -17,20 +17,24 @@ use Rattle.row_state.specs.Start.{AreSomeKinds, IsState, columns_left}
 use Rattle.row_state.specs.Steps.{column_of, state_after}
 use Rattle.track_ways.specs.declared.line.Line.{Line}
 use Rattle.track_ways.specs.declared.track.NetTrack.{NetTrack}
-use Rattle.track_ways.specs.Lines.{is_ahead, is_open, with_line}
+use Rattle.track_ways.specs.Lines.{LineRule, is_ahead, is_open, with_line}
+use Rattle.track_ways.specs.Fillings.{look, look_is}
+use Rattle.track_ways.specs.Rows.{gate_line, lines_between}
+use Rattle.track_ways.specs.Rules.{Among, IsRule}
 use Rattle.cell_num.specs.Pins.{is_rail}
 use Rattle.track_ways.specs.Paths.{lines_to}
 use Rattle.track_ways.specs.States.{is_behind, is_open_at, is_still_ahead}
 use Rattle.track_ways.specs.Tracks.{AreKeys}
-use Rattle.track_ways.specs.Ways.{are_apart, fills, goes_ways, line_test, line_ways, missing, net_of, nets_below, open_of, pass_ways}
-use Rattle.track_ways.proofs.Exact.{pass_at}
-use Rattle.track_ways.proofs.Nets.{behind_among}
+use Rattle.track_ways.specs.Ways.{LineWays, goes_ways_by, net_of, nets_below, open_of, pass_ways_by}
+use Rattle.track_ways.proofs.Exact.{PartedBy, PlacesAmong, here_among, open_held, parted_by, rest_among}
+use Rattle.track_ways.proofs.Nets.{behind_among, lines_among}
+use Rattle.track_ways.proofs.Steps.{some_lines}
 use Rattle.track_ways.proofs.Places.{kept}
 use Rattle.track_ways.specs.declared.lemma.TrackLemma.{TrackLemma}
-use Rattle.track_ways.specs.Certificate.{AreJustified, IsJustified}
+use Rattle.track_ways.specs.Certificate.{AreJustifiedBy, IsJustifiedBy}
 use Rattle.track_ways.specs.Checked.{CoversListed}
 use Rattle.track_search.specs.InOrder.{in_order}
-use Rattle.track_search.specs.Kept.{AreKept, AreNew, IsTrackBelow, IsWithin}
+use Rattle.track_search.specs.Kept.{AreKeptBy, AreNew, IsTrackBelow, IsWithin}
 use Rattle.track_search.specs.Visit.{AreBelow, AreFresh, AreWaysAt, GoOn, HasPart, IsOfOpen, kept_at}
 use Rattle.track_search.proofs.InOrder.{From, in_order_from, in_order_increases, in_order_to, range_below}
 
@@ -124,36 +128,41 @@ pairs_front {X} R xs ys h i j d less short =
     subst (λ (a : X). R a (get_or xs j d)) (get_or_append_left xs ys d i (omega (arith, less, short)))
     (subst (λ (b : X). R (get_or (xs ++ ys) i d) b) (get_or_append_left xs ys d j short) (h i j d less (omega (arith, short, length-append xs ys))))
 
-justified_front : (value : Row → State → Kinds → ℕ) (pins : Pins) (limit : ℕ) (k : Kinds) (xs ys : List TrackLemma) → AreJustified value pins limit k (xs ++ ys) → AreJustified value pins limit k xs
-justified_front value pins limit k xs ys h i d within =
-    subst (λ (z : TrackLemma). IsJustified value pins limit k (take i xs) z) (get_or_append_left xs ys d i within)
-    (subst (λ zs. IsJustified value pins limit k zs (get_or (xs ++ ys) i d)) (take-append-le i xs ys (omega (arith, within))) (h i d (omega (arith, within, length-append xs ys))))
+justified_front : (rule : LineRule) (value : Row → State → Kinds → ℕ) (pins : Pins) (limit : ℕ) (k : Kinds) (xs ys : List TrackLemma) → AreJustifiedBy rule value pins limit k (xs ++ ys) → AreJustifiedBy rule value pins limit k xs
+justified_front rule value pins limit k xs ys h i d within =
+    subst (λ (z : TrackLemma). IsJustifiedBy rule value pins limit k (take i xs) z) (get_or_append_left xs ys d i within)
+    (subst (λ zs. IsJustifiedBy rule value pins limit k zs (get_or (xs ++ ys) i d)) (take-append-le i xs ys (omega (arith, within))) (h i d (omega (arith, within, length-append xs ys))))
 
-pub kept_front : (value : Row → State → Kinds → ℕ) (pins : Pins) (limit : ℕ) (k : Kinds) (gaps : ℕ) (xs ys : List TrackLemma) → AreKept value pins limit k gaps (xs ++ ys) → AreKept value pins limit k gaps xs
-kept_front value pins limit k gaps xs ys h = record {
-  justified = justified_front value pins limit k xs ys h.justified;
+pub kept_front : (rule : LineRule) (value : Row → State → Kinds → ℕ) (pins : Pins) (limit : ℕ) (k : Kinds) (gaps : ℕ) (xs ys : List TrackLemma) → AreKeptBy rule value pins limit k gaps (xs ++ ys) → AreKeptBy rule value pins limit k gaps xs
+kept_front rule value pins limit k gaps xs ys h = record {
+  justified = justified_front rule value pins limit k xs ys h.justified;
   own = pairs_front Differ xs ys h.own;
   within = all_front (IsWithin k limit gaps) xs ys h.within;
 }
 
 -- ---- the tracks after a column are below the limit
 
-open_below : (pins : Pins) (limit : ℕ) (before behind : NetNo → Bool) (way : List NetTrack) → AreBelow limit way → AreBelow limit (open_of pins before behind way)
-open_below pins limit before behind way low = all_from_contains (λ (t : NetTrack). t.track < limit) (open_of pins before behind way) (λ t there.
-    All-contains (λ (t : NetTrack). t.track < limit) way t low (kept (λ (t : NetTrack). is_open pins before behind t.net) way t there).0)
+-- those after the last of some lines
+last_below : {rule : LineRule} {listing : LineWays} (r : IsRule rule listing) (pins : Pins) (limit : ℕ) (nets : List NetNo) (before : NetNo → Bool) (line : Line) (behind : NetNo → Bool) (tracks way : List NetTrack) → PartedBy rule listing pins limit nets before line [] behind tracks way → AreBelow limit way
+last_below {rule} r pins limit nets before line behind tracks way p =
+    subst (AreBelow limit) (contains_one (open_of pins (with_line before line) behind p.out) way p.further)
+    (all_from_contains (λ (t : NetTrack). t.track < limit) (open_of pins (with_line before line) behind p.out) (λ t at.
+    let inside : Contains p.out t × (is_open pins (with_line before line) behind t.net ≡ true) = kept (λ (t : NetTrack). is_open pins (with_line before line) behind t.net) p.out t at in
+    let further : behind t.net ≡ true = (and_parts (with_line before line t.net) (behind t.net) (and_parts (not (is_rail pins t.net)) (with_line before line t.net && behind t.net) inside.1).1).1 in
+    let of = p.here.from (look p.out) (all_from_contains (λ (t : NetTrack). look p.out t.net ≡ t.track) p.out (λ t also. look_is p.out t p.here.one also)) in
+    subst (λ n. n < limit) (look_is p.out t p.here.one inside.0)
+    (r.low pins limit before line (λ net. is_ahead [] net || behind net) of.0 (look p.out) of.2 t.net (open_held pins before line [] behind t.net refl inside.1) (inr further))))
 
-line_below : (limit : ℕ) (line : Line) (way : List NetTrack) → line_test limit line way ≡ true → AreBelow limit way
-line_below limit line way e = all_from_contains (λ (t : NetTrack). t.track < limit) way (λ t there.
-    ltb-true t.track limit (and_parts _ _ (pass_at (λ (t : NetTrack). ltb t.track limit && list_all (are_apart line t) way) way t e there)).0)
+pass_below : {rule : LineRule} {listing : LineWays} (r : IsRule rule listing) (pins : Pins) (limit : ℕ) (nets : List NetNo) (before : NetNo → Bool) (lines : List Line) (behind : NetNo → Bool) (tracks way : List NetTrack) → (length lines ≡ 0 → ⊥) → Among nets before → PlacesAmong nets lines → Contains (pass_ways_by listing pins limit nets before lines behind tracks) way → AreBelow limit way
+pass_below r pins limit nets before [] behind tracks way some among places there = absurd (some refl)
+pass_below r pins limit nets before (line ∷ []) behind tracks way some among places there =
+    last_below r pins limit nets before line behind tracks way (parted_by r pins limit nets before line [] behind tracks way among places there)
+pass_below {rule} {listing} r pins limit nets before (line ∷ next ∷ rest) behind tracks way some among places there =
+    let p : PartedBy rule listing pins limit nets before line (next ∷ rest) behind tracks way = parted_by r pins limit nets before line (next ∷ rest) behind tracks way among places there in
+    pass_below r pins limit nets (with_line before line) (next ∷ rest) behind p.out way (λ none. absurd (omega (arith, none))) (here_among nets before line (next ∷ rest) among places) (rest_among nets line (next ∷ rest) places) p.further
 
-pass_below : (pins : Pins) (limit : ℕ) (nets : List NetNo) (before : NetNo → Bool) (lines : List Line) (behind : NetNo → Bool) (tracks way : List NetTrack) → AreBelow limit tracks → Contains (pass_ways pins limit nets before lines behind tracks) way → AreBelow limit way
-pass_below pins limit nets before [] behind tracks way low there = subst (AreBelow limit) (contains_one (open_of pins before behind tracks) way there) (open_below pins limit before behind tracks low)
-pass_below pins limit nets before (line ∷ rest) behind tracks way low there =
-    let at : Piece (pass_ways pins limit nets (with_line before line) rest behind) (line_ways pins limit nets before line (λ net. is_ahead rest net || behind net) (open_of pins before (λ net. is_ahead (line ∷ rest) net || behind net) tracks)) way = in_flat (pass_ways pins limit nets (with_line before line) rest behind) (line_ways pins limit nets before line (λ net. is_ahead rest net || behind net) (open_of pins before (λ net. is_ahead (line ∷ rest) net || behind net) tracks)) way there in
-    let tested : line_test limit line at.of ≡ true = (kept (line_test limit line) (fills limit (missing pins before line (λ net. is_ahead rest net || behind net) nets (open_of pins before (λ net. is_ahead (line ∷ rest) net || behind net) tracks)) (open_of pins before (λ net. is_ahead (line ∷ rest) net || behind net) tracks)) at.of at.listed).1 in
-    pass_below pins limit nets (with_line before line) rest behind at.of way (line_below limit line at.of tested) at.inside
-
-pub ways_below : (pins : Pins) (limit : ℕ) (k : Kinds) (s : State) (step : Step) (ways onward : List (List NetTrack)) → All (AreBelow limit) ways → All (GoOn pins limit k s step ways) onward → All (AreBelow limit) onward
-ways_below pins limit k s step ways onward low from = all_imply (GoOn pins limit k s step ways) (AreBelow limit) onward (λ next go.
-    let of : Some' (λ way. Contains (goes_ways pins limit k s way step) next) ways = some_from_any (λ way. Contains (goes_ways pins limit k s way step) next) ways go in
-    pass_below pins limit (nets_below k.nets) (is_behind k s) (lines_to s (column_of k step)) (is_still_ahead k (state_after k s step)) of.it next (All-contains (AreBelow limit) ways of.it low of.there) of.holds) from
+pub ways_below : {rule : LineRule} {listing : LineWays} (r : IsRule rule listing) (pins : Pins) (limit : ℕ) (k : Kinds) (s : State) (step : Step) (ways onward : List (List NetTrack)) → AreSomeKinds k → IsState k s → All (GoOn listing pins limit k s step ways) onward → All (AreBelow limit) onward
+ways_below {rule} {listing} r pins limit k s step ways onward some state from = all_imply (GoOn listing pins limit k s step ways) (AreBelow limit) onward (λ next go.
+    let of : Some' (λ way. Contains (goes_ways_by listing pins limit k s way step) next) ways = some_from_any (λ way. Contains (goes_ways_by listing pins limit k s way step) next) ways go in
+    pass_below r pins limit (nets_below k.nets) (is_behind k s) (lines_to s (column_of k step)) (is_still_ahead k (state_after k s step)) of.it next
+    (some_lines (lines_between s.p_end s.n_end (column_of k step)) (gate_line (column_of k step))) (behind_among k s some) (lines_among k s step some state) of.holds) from

@@ -4,6 +4,7 @@ pub mod Grown
 pub mod InOrder
 pub mod Kept
 pub mod Least
+pub mod LeastBy
 pub mod Legal
 pub mod Lists
 pub mod Marked
@@ -11,5 +12,6 @@ pub mod LowestFound
 pub mod Refuted
 pub mod Spent
 pub mod Starts
+pub mod Straight
 pub mod Uncrowded
 pub mod Ways

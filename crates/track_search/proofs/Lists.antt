@@ -8,7 +8,7 @@ use Rattle.cell_num.proofs.Pairs.{any_append_left, any_at, pairs_append, pairs_n
 use Rattle.row_state.specs.declared.kind.Kinds.{Kinds}
 use Rattle.row_state.specs.declared.step.Step.{Step}
 use Rattle.row_state.specs.declared.state.State.{State}
-use Rattle.track_ways.specs.Ways.{goes_ways}
+use Rattle.track_ways.specs.Ways.{LineWays, goes_ways_by}
 use Rattle.track_ways.specs.declared.track.NetTrack.{NetTrack}
 use Rattle.track_ways.specs.declared.lemma.TrackLemma.{TrackLemma}
 use Rattle.track_ways.specs.Checked.{CoversListed}
@@ -48,14 +48,14 @@ pub added_all : (lemmas : List TrackLemma) (s : State) (left : ℕ) (found befor
 added_all lemmas s left found before after i past h = subst (λ done. AreAdded lemmas s left found done before after) (take_all i found past) h
 
 -- one more way before the column, with all its ways after it
-pub onward_more : (pins : Pins) (limit : ℕ) (k : Kinds) (lemmas : List TrackLemma) (s : State) (step : Step) (after : State) (left : ℕ) (ways items before new found : List (List NetTrack)) (i : ℕ) (x : List NetTrack) → items ≡ ways → x ≡ get_or items i x → i < length items → found ≡ goes_ways pins limit k s x step → All (AreTaken pins limit k lemmas s step after left before) (take i items) × All (GoOn pins limit k s step ways) before → AreAdded lemmas after left found found before new → All (AreTaken pins limit k lemmas s step after left new) (take (i + 1) items) × All (GoOn pins limit k s step ways) new
-onward_more pins limit k lemmas s step after left ways items before new found i x same is within are h a = (
-  All-more (AreTaken pins limit k lemmas s step after left new) items i x within
-      (all_imply (AreTaken pins limit k lemmas s step after left before) (AreTaken pins limit k lemmas s step after left new) (take i items) (λ w all. all_taken_grown lemmas after left before new a.more (goes_ways pins limit k s w step) a.is all) h.0)
-      (subst (AreTaken pins limit k lemmas s step after left new) is (subst (All (IsTaken lemmas after left new)) are a.taken)),
-  subst (All (GoOn pins limit k s step ways)) (sym a.is) (All-append (GoOn pins limit k s step ways) before a.more h.1
-      (all_from_contains (GoOn pins limit k s step ways) a.more (λ next there.
-      any_at (λ way. Contains (goes_ways pins limit k s way step) next) ways x (subst (λ zs. Contains zs x) same (i, within, sym is)) (subst (λ fs. Contains fs next) are (All-contains (Contains found) a.more next a.from there))))),
+pub onward_more : (listing : LineWays) (pins : Pins) (limit : ℕ) (k : Kinds) (lemmas : List TrackLemma) (s : State) (step : Step) (after : State) (left : ℕ) (ways items before new found : List (List NetTrack)) (i : ℕ) (x : List NetTrack) → items ≡ ways → x ≡ get_or items i x → i < length items → found ≡ goes_ways_by listing pins limit k s x step → All (AreTaken listing pins limit k lemmas s step after left before) (take i items) × All (GoOn listing pins limit k s step ways) before → AreAdded lemmas after left found found before new → All (AreTaken listing pins limit k lemmas s step after left new) (take (i + 1) items) × All (GoOn listing pins limit k s step ways) new
+onward_more listing pins limit k lemmas s step after left ways items before new found i x same is within are h a = (
+  All-more (AreTaken listing pins limit k lemmas s step after left new) items i x within
+      (all_imply (AreTaken listing pins limit k lemmas s step after left before) (AreTaken listing pins limit k lemmas s step after left new) (take i items) (λ w all. all_taken_grown lemmas after left before new a.more (goes_ways_by listing pins limit k s w step) a.is all) h.0)
+      (subst (AreTaken listing pins limit k lemmas s step after left new) is (subst (All (IsTaken lemmas after left new)) are a.taken)),
+  subst (All (GoOn listing pins limit k s step ways)) (sym a.is) (All-append (GoOn listing pins limit k s step ways) before a.more h.1
+      (all_from_contains (GoOn listing pins limit k s step ways) a.more (λ next there.
+      any_at (λ way. Contains (goes_ways_by listing pins limit k s way step) next) ways x (subst (λ zs. Contains zs x) same (i, within, sym is)) (subst (λ fs. Contains fs next) are (All-contains (Contains found) a.more next a.from there))))),
 )
 
 -- one more way of which no lemma speaks, and that has all tracks of no other
@@ -70,5 +70,5 @@ pub fresh_none : (lemmas : List TrackLemma) (s : State) (left : ℕ) (ways : Lis
 fresh_none lemmas s left ways none = subst (AreFresh lemmas s left) (sym none) (record { open' = All-nil (λ way. Any (CoversListed s left way) lemmas → ⊥); apart = pairs_none (λ a b. HasPart b a → ⊥) })
 
 -- before the first way
-pub onward_none : (pins : Pins) (limit : ℕ) (k : Kinds) (lemmas : List TrackLemma) (s : State) (step : Step) (after : State) (left : ℕ) (ways items onward : List (List NetTrack)) → onward ≡ [] → All (AreTaken pins limit k lemmas s step after left onward) (take 0 items) × All (GoOn pins limit k s step ways) onward
-onward_none pins limit k lemmas s step after left ways items onward none = (All-nil (AreTaken pins limit k lemmas s step after left onward), subst (All (GoOn pins limit k s step ways)) (sym none) (All-nil (GoOn pins limit k s step ways)))
+pub onward_none : (listing : LineWays) (pins : Pins) (limit : ℕ) (k : Kinds) (lemmas : List TrackLemma) (s : State) (step : Step) (after : State) (left : ℕ) (ways items onward : List (List NetTrack)) → onward ≡ [] → All (AreTaken listing pins limit k lemmas s step after left onward) (take 0 items) × All (GoOn listing pins limit k s step ways) onward
+onward_none listing pins limit k lemmas s step after left ways items onward none = (All-nil (AreTaken listing pins limit k lemmas s step after left onward), subst (All (GoOn listing pins limit k s step ways)) (sym none) (All-nil (GoOn listing pins limit k s step ways)))

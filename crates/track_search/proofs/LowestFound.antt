@@ -1,6 +1,5 @@
 -- What the search for the fewest tracks says of the row that it found, and of the row's first routing on them.
-use Rattle.std.proofs.Common.{ℕ, ◌≡◌, ◌<◌, ◌≤◌, ◌⊎◌, List, Option, IfSome, Some, inl, inr, refl, subst, sym, length, arith, All}
-use Rattle.std.proofs.lemmas.List.Sorted.{IsPermutation-refl}
+use Rattle.std.proofs.Common.{ℕ, ◌≡◌, ◌<◌, ◌≤◌, ◌⊎◌, List, Option, IfSome, Some, inl, inr, subst, sym, length, arith, All}
 use Rattle.cell_num.specs.declared.finger.Fingers.{Fingers}
 use Rattle.cell_num.specs.declared.finger.Row.{Row}
 use Rattle.cell_num.specs.declared.net.Pins.{Pins}
@@ -16,16 +15,18 @@ use Rattle.row_place.proofs.Pins.{has_pins}
 use Rattle.first_route.specs.Tries.{AreMore}
 use Rattle.row_state.specs.declared.kind.Kinds.{Kinds}
 use Rattle.row_state.specs.declared.state.State.{State}
-use Rattle.row_state.specs.Completion.{left_in}
-use Rattle.row_state.specs.Start.{AreKinds, AreSomeKinds, start_of}
+use Rattle.row_state.specs.Start.{AreKinds, AreSomeKinds}
 use Rattle.track_ways.specs.declared.lemma.TrackLemma.{TrackLemma}
 use Rattle.track_search.specs.declared.fewest.Fewest.{Fewest}
 use Rattle.track_search.specs.declared.fewest.Fewest.TheVariants as fewest
 use Rattle.track_log.specs.Fits.{LemmaFits, TrackFits}
-use Rattle.track_search.specs.Fewest.{AreAtMost, IsFewest, IsFirstOn, IsOpen, Prove, TakeAtLeast, TakeTracks, least_of, lemmas_of}
-use Rattle.track_search.specs.Kept.{IsKeptWithin, IsTrackBelow, IsWithin}
+use Rattle.track_ways.specs.Lines.{LineRule}
+use Rattle.track_search.specs.FewestBy.{ProveBy}
+use Rattle.track_search.specs.Fewest.{AreAtMost, IsFewest, IsFirstOn, IsOpen, TakeAtLeast, TakeTracks, least_of, lemmas_of}
+use Rattle.track_search.specs.Kept.{IsKeptWithinBy, IsTrackBelow, IsWithin}
 use Rattle.track_search.specs.Limit.{IsFirstRow}
-use Rattle.track_search.specs.Lowest.{HavePins, IsBudgetSpent, IsFirstLow}
+use Rattle.track_search.specs.Lowest.{Arranges, HavePins, IsBudgetSpent, IsFirstLow}
+use Rattle.track_search.proofs.Least.{whole_row}
 
 pub first_on : (value : Row → State → Kinds → ℕ) (pins : Pins) (k : Kinds) (gaps : ℕ) (e : Fewest) (row : List Column) (tracks : ℕ) (lemmas : List TrackLemma) → e ≡ fewest.Found row tracks lemmas → IsFewest value pins k gaps e → IsFirstOn value pins k gaps row tracks lemmas
 first_on value pins k gaps e row tracks lemmas is h = subst (IsFewest value pins k gaps) is h
@@ -36,25 +37,22 @@ takes pins k gaps e row tracks lemmas is h = subst (TakeTracks pins k gaps) is h
 pub found_some : {X : Type 0} (P : X → Type 0) (o : Option X) (x : X) → o ≡ Some x → IfSome o P → P x
 found_some {X} P o x is h = subst (λ (q : Option X). IfSome q P) is h
 
--- the row has all fingers
-whole : (pins : Pins) (k : Kinds) (gaps tracks : ℕ) (row : List Column) → IsFirstRow pins tracks k gaps row → IsArrangement row (left_in k (start_of k))
-whole pins k gaps tracks row first = first.arranges (left_in k (start_of k)) (record { nets = refl; p = IsPermutation-refl _; n = IsPermutation-refl _ })
+-- a row of all fingers
+pub columns : (k : Kinds) (row : List Column) → ((f : Fingers) → AreKinds f k → IsArrangement row f) → All IsColumn row
+columns k row arranges = (whole_row k row arranges).columns
 
-pub columns : (pins : Pins) (k : Kinds) (gaps tracks : ℕ) (row : List Column) → IsFirstRow pins tracks k gaps row → All IsColumn row
-columns pins k gaps tracks row first = (whole pins k gaps tracks row first).columns
+pub few : (k : Kinds) (row : List Column) → AreSomeKinds k → ((f : Fingers) → AreKinds f k → IsArrangement row f) → length row ≤ 32
+few k row some arranges = omega (arith, (whole_row k row arranges).fewest, some.few_columns)
 
-pub few : (pins : Pins) (k : Kinds) (gaps tracks : ℕ) (row : List Column) → AreSomeKinds k → IsFirstRow pins tracks k gaps row → length row ≤ 32
-few pins k gaps tracks row some first = omega (arith, (whole pins k gaps tracks row first).fewest, some.few_columns)
-
-pub placed_pins : (pins : Pins) (k : Kinds) (gaps tracks : ℕ) (row : List Column) (p : Placement) → p ≡ placement_of row → HavePins pins k gaps → IsFirstRow pins tracks k gaps row → HasPins p pins
-placed_pins pins k gaps tracks row p placed have first = subst (λ (q : Placement). HasPins q pins) (sym placed) (have row (record { arranges = first.arranges; within = first.within }))
+pub placed_pins : (pins : Pins) (k : Kinds) (gaps : ℕ) (row : List Column) (p : Placement) → p ≡ placement_of row → HavePins pins k gaps → Arranges k gaps row → HasPins p pins
+placed_pins pins k gaps row p placed have arranges = subst (λ (q : Placement). HasPins q pins) (sym placed) (have row arranges)
 
 pub have_pins : (names : List (List ℕ)) (pins : Pins) (f : Fingers) (k : Kinds) (gaps : ℕ) → AreSound names pins f → ArePins f.nets pins → AreKinds f k → HavePins pins k gaps
 have_pins names pins f k gaps sound are_pins kinds row arranges = has_pins names pins f row sound are_pins (arranges.arranges f kinds)
 
 -- the routing has as many tracks as the row takes
-pub prove_same : (value : Row → State → Kinds → ℕ) (pins : Pins) (k : Kinds) (gaps tracks same : ℕ) (lemmas : List TrackLemma) → same ≡ tracks → Prove value pins k gaps tracks lemmas → Prove value pins k gaps same lemmas
-prove_same value pins k gaps tracks same lemmas e h = subst (λ n. Prove value pins k gaps n lemmas) (sym e) h
+pub prove_same : (rule : LineRule) (value : Row → State → Kinds → ℕ) (pins : Pins) (k : Kinds) (gaps tracks same : ℕ) (lemmas : List TrackLemma) → same ≡ tracks → ProveBy rule value pins k gaps tracks lemmas → ProveBy rule value pins k gaps same lemmas
+prove_same rule value pins k gaps tracks same lemmas e h = subst (λ n. ProveBy rule value pins k gaps n lemmas) (sym e) h
 
 pub take_same : (pins : Pins) (k : Kinds) (gaps tracks same : ℕ) → same ≡ tracks → TakeAtLeast pins k gaps tracks → TakeAtLeast pins k gaps same
 take_same pins k gaps tracks same e h = subst (TakeAtLeast pins k gaps) (sym e) h
@@ -85,14 +83,14 @@ pub below_open : (most : ℕ) (e : Fewest) (proved : ℕ) (lemmas : List TrackLe
 below_open most e proved lemmas is h = subst (AreAtMost most) is h
 
 -- all lemmas that are kept on fewer tracks
-pub kept_found : (value : Row → State → Kinds → ℕ) (pins : Pins) (k : Kinds) (gaps budget : ℕ) (e : Fewest) (row : List Column) (tracks : ℕ) (lemmas : List TrackLemma) → e ≡ fewest.Found row tracks lemmas → IsKeptWithin value pins k gaps (least_of e) budget (lemmas_of e) → IsKeptWithin value pins k gaps tracks budget lemmas
-kept_found value pins k gaps budget e row tracks lemmas is h = subst (λ (z : Fewest). IsKeptWithin value pins k gaps (least_of z) budget (lemmas_of z)) is h
+pub kept_found : (rule : LineRule) (value : Row → State → Kinds → ℕ) (pins : Pins) (k : Kinds) (gaps budget : ℕ) (e : Fewest) (row : List Column) (tracks : ℕ) (lemmas : List TrackLemma) → e ≡ fewest.Found row tracks lemmas → IsKeptWithinBy rule value pins k gaps (least_of e) budget (lemmas_of e) → IsKeptWithinBy rule value pins k gaps tracks budget lemmas
+kept_found rule value pins k gaps budget e row tracks lemmas is h = subst (λ (z : Fewest). IsKeptWithinBy rule value pins k gaps (least_of z) budget (lemmas_of z)) is h
 
-pub kept_open : (value : Row → State → Kinds → ℕ) (pins : Pins) (k : Kinds) (gaps budget : ℕ) (e : Fewest) (proved : ℕ) (lemmas : List TrackLemma) → e ≡ fewest.Open proved lemmas → IsKeptWithin value pins k gaps (least_of e) budget (lemmas_of e) → IsKeptWithin value pins k gaps proved budget lemmas
-kept_open value pins k gaps budget e proved lemmas is h = subst (λ (z : Fewest). IsKeptWithin value pins k gaps (least_of z) budget (lemmas_of z)) is h
+pub kept_open : (rule : LineRule) (value : Row → State → Kinds → ℕ) (pins : Pins) (k : Kinds) (gaps budget : ℕ) (e : Fewest) (proved : ℕ) (lemmas : List TrackLemma) → e ≡ fewest.Open proved lemmas → IsKeptWithinBy rule value pins k gaps (least_of e) budget (lemmas_of e) → IsKeptWithinBy rule value pins k gaps proved budget lemmas
+kept_open rule value pins k gaps budget e proved lemmas is h = subst (λ (z : Fewest). IsKeptWithinBy rule value pins k gaps (least_of z) budget (lemmas_of z)) is h
 
-pub kept_same : (value : Row → State → Kinds → ℕ) (pins : Pins) (k : Kinds) (gaps budget tracks same : ℕ) (lemmas : List TrackLemma) → same ≡ tracks → IsKeptWithin value pins k gaps tracks budget lemmas → IsKeptWithin value pins k gaps same budget lemmas
-kept_same value pins k gaps budget tracks same lemmas e h = subst (λ n. IsKeptWithin value pins k gaps n budget lemmas) (sym e) h
+pub kept_same : (rule : LineRule) (value : Row → State → Kinds → ℕ) (pins : Pins) (k : Kinds) (gaps budget tracks same : ℕ) (lemmas : List TrackLemma) → same ≡ tracks → IsKeptWithinBy rule value pins k gaps tracks budget lemmas → IsKeptWithinBy rule value pins k gaps same budget lemmas
+kept_same rule value pins k gaps budget tracks same lemmas e h = subst (λ n. IsKeptWithinBy rule value pins k gaps n budget lemmas) (sym e) h
 
 pub still_open : (value : Row → State → Kinds → ℕ) (pins : Pins) (k : Kinds) (gaps most budget : ℕ) (e : Fewest) (proved : ℕ) (lemmas : List TrackLemma) → e ≡ fewest.Open proved lemmas → IsOpen value pins k gaps most budget e → (proved ≡ most) ⊎ IsBudgetSpent value pins k gaps proved budget
 still_open value pins k gaps most budget e proved lemmas is h = elim (subst (IsOpen value pins k gaps most budget) is h) [

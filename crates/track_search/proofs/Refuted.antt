@@ -12,16 +12,18 @@ use Rattle.row_state.specs.declared.step.Step.{Step}
 use Rattle.row_state.specs.Start.{AreSomeKinds}
 use Rattle.row_state.specs.Steps.{state_after}
 use Rattle.track_ways.specs.declared.track.NetTrack.{NetTrack}
+use Rattle.track_ways.specs.Lines.{LineRule}
 use Rattle.track_ways.specs.Tracks.{AreTracksOf}
 use Rattle.track_ways.specs.States.{is_open_at}
-use Rattle.track_ways.specs.Ways.{goes_ways}
+use Rattle.track_ways.specs.Rules.{IsRule}
+use Rattle.track_ways.specs.Ways.{LineWays, goes_ways_by}
 use Rattle.track_ways.specs.declared.lemma.TrackLemma.{TrackLemma}
-use Rattle.track_ways.specs.Certificate.{AreJustified, Covers, CoversAll, IsJustified, IsRefuted, IsValid}
-use Rattle.track_ways.specs.Checked.{CoversListed, IsJustifiedListed, IsRefutedListed}
-use Rattle.track_ways.proofs.Checked.{justified_decided}
-use Rattle.track_check.specs.Steps.{StepFailsListed}
+use Rattle.track_ways.specs.Certificate.{AreJustifiedBy, Covers, CoversAll, IsJustifiedBy, IsRefuted, IsValid}
+use Rattle.track_ways.specs.Checked.{CoversListed, IsJustifiedListedBy, IsRefutedListed}
+use Rattle.track_ways.proofs.Checked.{justified_decided_by}
 use Rattle.row_cycles.proofs.Certified.{each_push}
 use Rattle.track_search.specs.InOrder.{in_order}
+use Rattle.track_check.specs.Steps.{StepFailsListedBy}
 use Rattle.track_search.specs.Visit.{AreCovered, AreFresh, HasPart, kept_at, lemma_at}
 use Rattle.track_search.proofs.Kept.{AreSame}
 
@@ -32,31 +34,31 @@ refuted_more value k xs ys more s gaps is way (inr any) = inr (subst (Any (Cover
 all_refuted_more : (value : Row → State → Kinds → ℕ) (k : Kinds) (xs ys more : List TrackLemma) (s : State) (gaps : ℕ) (ways : List (List NetTrack)) → ys ≡ xs ++ more → All (IsRefutedListed value k xs s gaps) ways → All (IsRefutedListed value k ys s gaps) ways
 all_refuted_more value k xs ys more s gaps ways is all = All-weaker (IsRefutedListed value k xs s gaps) (IsRefutedListed value k ys s gaps) (refuted_more value k xs ys more s gaps is) ways all
 
-pub step_fails_more : (value : Row → State → Kinds → ℕ) (pins : Pins) (limit : ℕ) (k : Kinds) (xs ys more : List TrackLemma) (lemma : TrackLemma) (step : Step) → ys ≡ xs ++ more → StepFailsListed value pins limit k xs lemma step → StepFailsListed value pins limit k ys lemma step
-step_fails_more value pins limit k xs ys more lemma step is h left possible sum =
-    all_refuted_more value k xs ys more (state_after k lemma.state step) left (goes_ways pins limit k lemma.state lemma.tracks step) is (h left possible sum)
+pub step_fails_more : (listing : LineWays) (value : Row → State → Kinds → ℕ) (pins : Pins) (limit : ℕ) (k : Kinds) (xs ys more : List TrackLemma) (lemma : TrackLemma) (step : Step) → ys ≡ xs ++ more → StepFailsListedBy listing value pins limit k xs lemma step → StepFailsListedBy listing value pins limit k ys lemma step
+step_fails_more listing value pins limit k xs ys more lemma step is h left possible sum =
+    all_refuted_more value k xs ys more (state_after k lemma.state step) left (goes_ways_by listing pins limit k lemma.state lemma.tracks step) is (h left possible sum)
 
-justified_more : (value : Row → State → Kinds → ℕ) (pins : Pins) (limit : ℕ) (k : Kinds) (xs ys more : List TrackLemma) (lemma : TrackLemma) → ys ≡ xs ++ more → IsJustifiedListed value pins limit k xs lemma → IsJustifiedListed value pins limit k ys lemma
-justified_more value pins limit k xs ys more lemma is h = record {
+justified_more : (listing : LineWays) (value : Row → State → Kinds → ℕ) (pins : Pins) (limit : ℕ) (k : Kinds) (xs ys more : List TrackLemma) (lemma : TrackLemma) → ys ≡ xs ++ more → IsJustifiedListedBy listing value pins limit k xs lemma → IsJustifiedListedBy listing value pins limit k ys lemma
+justified_more listing value pins limit k xs ys more lemma is h = record {
   valid = h.valid;
   holds = elim h.holds [
     | inl d ↦ inl d
     | inr b ↦ inr (record {
-      steps = λ step left possible sum. all_refuted_more value k xs ys more (state_after k lemma.state step) left (goes_ways pins limit k lemma.state lemma.tracks step) is (b.steps step left possible sum);
+      steps = λ step left possible sum. all_refuted_more value k xs ys more (state_after k lemma.state step) left (goes_ways_by listing pins limit k lemma.state lemma.tracks step) is (b.steps step left possible sum);
       ends = b.ends;
     })
   ];
 }
 
-all_valid : (value : Row → State → Kinds → ℕ) (pins : Pins) (limit : ℕ) (k : Kinds) (xs : List TrackLemma) → AreJustified value pins limit k xs → All (IsValid pins k) xs
-all_valid value pins limit k xs all i d within = (all i d within).valid
+all_valid : (rule : LineRule) (value : Row → State → Kinds → ℕ) (pins : Pins) (limit : ℕ) (k : Kinds) (xs : List TrackLemma) → AreJustifiedBy rule value pins limit k xs → All (IsValid pins k) xs
+all_valid rule value pins limit k xs all i d within = (all i d within).valid
 
 have_tracks : (xs ys : List NetTrack) (track : NetNo → ℕ) → All (Contains xs) ys → AreTracksOf xs track → AreTracksOf ys track
 have_tracks xs ys track there lie = all_imply (Contains xs) (λ (t : NetTrack). track t.net ≡ t.track) ys (λ t at. All-contains (λ (t : NetTrack). track t.net ≡ t.track) xs t lie at) there
 
 -- the same tracks in another order leave a lemma justified
-justified_same : (value : Row → State → Kinds → ℕ) (pins : Pins) (limit : ℕ) (k : Kinds) (earlier : List TrackLemma) (s : State) (gaps : ℕ) (way other : List NetTrack) → AreSame way other → IsJustified value pins limit k earlier (lemma_at s gaps way) → IsJustified value pins limit k earlier (lemma_at s gaps other)
-justified_same value pins limit k earlier s gaps way other same h = record {
+justified_same : (rule : LineRule) (value : Row → State → Kinds → ℕ) (pins : Pins) (limit : ℕ) (k : Kinds) (earlier : List TrackLemma) (s : State) (gaps : ℕ) (way other : List NetTrack) → AreSame way other → IsJustifiedBy rule value pins limit k earlier (lemma_at s gaps way) → IsJustifiedBy rule value pins limit k earlier (lemma_at s gaps other)
+justified_same rule value pins limit k earlier s gaps way other same h = record {
   valid = record {
     state = h.valid.state;
     ends = h.valid.ends;
@@ -73,17 +75,17 @@ justified_same value pins limit k earlier s gaps way other same h = record {
 }
 
 -- a lemma more for each of some ways
-pub kept_all : (value : Row → State → Kinds → ℕ) (pins : Pins) (limit : ℕ) (k : Kinds) (some : AreSomeKinds k) (s : State) (gaps : ℕ) (ways : List (List NetTrack)) (xs : List TrackLemma) → AreJustified value pins limit k xs → All (λ way. AreSame way (in_order k.nets way)) ways → All (λ way. IsJustifiedListed value pins limit k xs (lemma_at s gaps way)) ways → AreJustified value pins limit k (xs ++ map (kept_at k.nets s gaps) ways)
-kept_all value pins limit k some s gaps [] xs all same each = subst (AreJustified value pins limit k) (sym (append-nil xs)) all
-kept_all value pins limit k some s gaps (way ∷ ways) xs all same each =
-    let here : IsJustifiedListed value pins limit k xs (lemma_at s gaps way) = All-head (λ way. IsJustifiedListed value pins limit k xs (lemma_at s gaps way)) way ways each in
-    let rest : All (λ way. IsJustifiedListed value pins limit k xs (lemma_at s gaps way)) ways = All-tail (λ way. IsJustifiedListed value pins limit k xs (lemma_at s gaps way)) way ways each in
+pub kept_all : {rule : LineRule} {listing : LineWays} (r : IsRule rule listing) (value : Row → State → Kinds → ℕ) (pins : Pins) (limit : ℕ) (k : Kinds) (some : AreSomeKinds k) (s : State) (gaps : ℕ) (ways : List (List NetTrack)) (xs : List TrackLemma) → AreJustifiedBy rule value pins limit k xs → All (λ way. AreSame way (in_order k.nets way)) ways → All (λ way. IsJustifiedListedBy listing value pins limit k xs (lemma_at s gaps way)) ways → AreJustifiedBy rule value pins limit k (xs ++ map (kept_at k.nets s gaps) ways)
+kept_all {rule} {listing} r value pins limit k some s gaps [] xs all same each = subst (AreJustifiedBy rule value pins limit k) (sym (append-nil xs)) all
+kept_all {rule} {listing} r value pins limit k some s gaps (way ∷ ways) xs all same each =
+    let here : IsJustifiedListedBy listing value pins limit k xs (lemma_at s gaps way) = All-head (λ way. IsJustifiedListedBy listing value pins limit k xs (lemma_at s gaps way)) way ways each in
+    let rest : All (λ way. IsJustifiedListedBy listing value pins limit k xs (lemma_at s gaps way)) ways = All-tail (λ way. IsJustifiedListedBy listing value pins limit k xs (lemma_at s gaps way)) way ways each in
     let alike : AreSame way (in_order k.nets way) = All-head (λ way. AreSame way (in_order k.nets way)) way ways same in
-    let own : IsJustified value pins limit k xs (kept_at k.nets s gaps way) = justified_same value pins limit k xs s gaps way (in_order k.nets way) alike ((justified_decided value pins limit k xs (lemma_at s gaps way) some (all_valid value pins limit k xs all)).1 here) in
-    let one : AreJustified value pins limit k (xs ++ kept_at k.nets s gaps way ∷ []) = each_push (IsJustified value pins limit k) xs (kept_at k.nets s gaps way) all own in
-    subst (AreJustified value pins limit k) (append_assoc xs (kept_at k.nets s gaps way ∷ []) (map (kept_at k.nets s gaps) ways))
-    (kept_all value pins limit k some s gaps ways (xs ++ kept_at k.nets s gaps way ∷ []) one (All-tail (λ way. AreSame way (in_order k.nets way)) way ways same)
-    (All-weaker (λ way. IsJustifiedListed value pins limit k xs (lemma_at s gaps way)) (λ w. IsJustifiedListed value pins limit k (xs ++ kept_at k.nets s gaps way ∷ []) (lemma_at s gaps w)) (λ w h. justified_more value pins limit k xs (xs ++ kept_at k.nets s gaps way ∷ []) (kept_at k.nets s gaps way ∷ []) (lemma_at s gaps w) refl h) ways rest))
+    let own : IsJustifiedBy rule value pins limit k xs (kept_at k.nets s gaps way) = justified_same rule value pins limit k xs s gaps way (in_order k.nets way) alike ((justified_decided_by r value pins limit k xs (lemma_at s gaps way) some (all_valid rule value pins limit k xs all)).1 here) in
+    let one : AreJustifiedBy rule value pins limit k (xs ++ kept_at k.nets s gaps way ∷ []) = each_push (IsJustifiedBy rule value pins limit k) xs (kept_at k.nets s gaps way) all own in
+    subst (AreJustifiedBy rule value pins limit k) (append_assoc xs (kept_at k.nets s gaps way ∷ []) (map (kept_at k.nets s gaps) ways))
+    (kept_all r value pins limit k some s gaps ways (xs ++ kept_at k.nets s gaps way ∷ []) one (All-tail (λ way. AreSame way (in_order k.nets way)) way ways same)
+    (All-weaker (λ way. IsJustifiedListedBy listing value pins limit k xs (lemma_at s gaps way)) (λ w. IsJustifiedListedBy listing value pins limit k (xs ++ kept_at k.nets s gaps way ∷ []) (lemma_at s gaps w)) (λ w h. justified_more listing value pins limit k xs (xs ++ kept_at k.nets s gaps way ∷ []) (kept_at k.nets s gaps way ∷ []) (lemma_at s gaps w) refl h) ways rest))
 
 -- ---- lemmas without tracks
 

@@ -8,12 +8,13 @@ use Rattle.cell_num.proofs.Lists.{all_imply, all_one, contains_none}
 use Rattle.cell_num.proofs.Pairs.{Some', pairs_none, pairs_one, some_from_any}
 use Rattle.row_state.specs.declared.kind.Kinds.{Kinds}
 use Rattle.row_state.specs.declared.state.State.{State}
+use Rattle.track_ways.specs.Lines.{LineRule}
 use Rattle.track_ways.specs.declared.track.NetTrack.{NetTrack}
 use Rattle.track_ways.specs.declared.lemma.TrackLemma.{TrackLemma}
 use Rattle.track_ways.specs.Checked.{CoversListed}
 use Rattle.track_search.specs.declared.progress.Progress.{Progress}
 use Rattle.track_search.specs.Bare.{IsNoted}
-use Rattle.track_search.specs.Kept.{AreKept, AreKeptBelow, AreNew, IsKeptWithin, IsSpent, IsSpentBelow, IsTrackBelow, IsWithin}
+use Rattle.track_search.specs.Kept.{AreKeptBy, AreKeptBelowBy, AreNew, IsKeptWithinBy, IsSpentBy, IsSpentBelowBy, IsTrackBelow, IsWithin}
 use Rattle.track_search.proofs.Kept.{Differ}
 use Rattle.track_search.specs.Visit.{AreBelow, AreFresh, HasPart, IsKept}
 use Rattle.track_search.proofs.Starts.{none_justified}
@@ -35,10 +36,10 @@ pub start_below : (limit : ℕ) (ways : List (List NetTrack)) → ways ≡ [] �
 start_below limit ways one = subst (All (AreBelow limit)) (sym one) (all_one (AreBelow limit) [] (All-nil (λ (t : NetTrack). t.track < limit)))
 
 -- nothing is kept there
-pub start_kept : (value : Row → State → Kinds → ℕ) (pins : Pins) (limit : ℕ) (k : Kinds) (gaps budget : ℕ) (p : Progress) → p.lemmas ≡ [] → IsNoted value pins limit k p → IsKept value pins limit k gaps budget p
-start_kept value pins limit k gaps budget p none noted = record {
+pub start_kept : (rule : LineRule) (value : Row → State → Kinds → ℕ) (pins : Pins) (limit : ℕ) (k : Kinds) (gaps budget : ℕ) (p : Progress) → p.lemmas ≡ [] → IsNoted value pins limit k p → IsKept rule value pins limit k gaps budget p
+start_kept rule value pins limit k gaps budget p none noted = record {
   kept = record {
-    justified = none_justified value pins limit k p.lemmas none;
+    justified = none_justified rule value pins limit k p.lemmas none;
     own = none_new p.lemmas none;
     within = subst (All (IsWithin k limit gaps)) (sym none) (All-nil (IsWithin k limit gaps));
   };
@@ -50,36 +51,36 @@ start_kept value pins limit k gaps budget p none noted = record {
 
 -- lists of lemmas on the limits below one, these the last ones; that many fewer than the budget may follow
 pub record AreTried
-    (value : Row → State → Kinds → ℕ) (pins : Pins) (k : Kinds) (gaps limit left budget : ℕ) (lemmas : List TrackLemma)
-    : Type 0 where
+    (rule : LineRule) (value : Row → State → Kinds → ℕ) (pins : Pins) (k : Kinds) (gaps limit left budget : ℕ)
+    (lemmas : List TrackLemma) : Type 0 where
   pub lists : List (List TrackLemma)
   pub limits : length lists ≡ limit
-  pub kept : AreKeptBelow value pins k gaps lists
+  pub kept : AreKeptBelowBy rule value pins k gaps lists
   pub used : left + sum_by length lists ≡ budget
   pub last : slice_index_or lists 0 [] ≡ lemmas
 
-pub none_tried : (value : Row → State → Kinds → ℕ) (pins : Pins) (k : Kinds) (gaps budget : ℕ) (lemmas : List TrackLemma) → lemmas ≡ [] → AreTried value pins k gaps 0 budget budget lemmas
-none_tried value pins k gaps budget lemmas none = record { lists = []; limits = refl; kept = tt; used = omega arith; last = sym none }
+pub none_tried : (rule : LineRule) (value : Row → State → Kinds → ℕ) (pins : Pins) (k : Kinds) (gaps budget : ℕ) (lemmas : List TrackLemma) → lemmas ≡ [] → AreTried rule value pins k gaps 0 budget budget lemmas
+none_tried rule value pins k gaps budget lemmas none = record { lists = []; limits = refl; kept = tt; used = omega arith; last = sym none }
 
-pub one_tried : (value : Row → State → Kinds → ℕ) (pins : Pins) (k : Kinds) (gaps limit before after budget : ℕ) (old lemmas : List TrackLemma) → AreTried value pins k gaps limit before budget old → AreKept value pins limit k gaps lemmas → after + length lemmas ≡ before → AreTried value pins k gaps (limit + 1) after budget lemmas
-one_tried value pins k gaps limit before after budget old lemmas h kept left = record {
+pub one_tried : (rule : LineRule) (value : Row → State → Kinds → ℕ) (pins : Pins) (k : Kinds) (gaps limit before after budget : ℕ) (old lemmas : List TrackLemma) → AreTried rule value pins k gaps limit before budget old → AreKeptBy rule value pins limit k gaps lemmas → after + length lemmas ≡ before → AreTried rule value pins k gaps (limit + 1) after budget lemmas
+one_tried rule value pins k gaps limit before after budget old lemmas h kept left = record {
   lists = lemmas ∷ h.lists;
   limits = omega (arith, h.limits);
-  kept = (subst (λ n. AreKept value pins n k gaps lemmas) (sym h.limits) kept, h.kept);
+  kept = (subst (λ n. AreKeptBy rule value pins n k gaps lemmas) (sym h.limits) kept, h.kept);
   used = omega (arith, left, h.used, sum_by-cons (λ (ls : List TrackLemma). length ls) lemmas h.lists);
   last = refl;
 }
 
-pub tried_spent : (value : Row → State → Kinds → ℕ) (pins : Pins) (k : Kinds) (gaps limit left budget : ℕ) (lemmas : List TrackLemma) → AreTried value pins k gaps limit left budget lemmas → IsSpentBelow value pins limit k gaps left → IsSpent value pins k gaps limit budget
-tried_spent value pins k gaps limit left budget lemmas h spent = record {
+pub tried_spent : (rule : LineRule) (value : Row → State → Kinds → ℕ) (pins : Pins) (k : Kinds) (gaps limit left budget : ℕ) (lemmas : List TrackLemma) → AreTried rule value pins k gaps limit left budget lemmas → IsSpentBelowBy rule value pins limit k gaps left → IsSpentBy rule value pins k gaps limit budget
+tried_spent rule value pins k gaps limit left budget lemmas h spent = record {
   lists = spent.lemmas ∷ h.lists;
   limits = omega (arith, h.limits);
-  kept = (subst (λ n. AreKept value pins n k gaps spent.lemmas) (sym h.limits) spent.kept, h.kept);
+  kept = (subst (λ n. AreKeptBy rule value pins n k gaps spent.lemmas) (sym h.limits) spent.kept, h.kept);
   more = omega (arith, spent.more, h.used, sum_by-cons (λ (ls : List TrackLemma). length ls) spent.lemmas h.lists);
 }
 
-pub tried_kept : (value : Row → State → Kinds → ℕ) (pins : Pins) (k : Kinds) (gaps limit left budget : ℕ) (lemmas : List TrackLemma) → AreTried value pins k gaps limit left budget lemmas → IsKeptWithin value pins k gaps limit budget lemmas
-tried_kept value pins k gaps limit left budget lemmas h = record {
+pub tried_kept : (rule : LineRule) (value : Row → State → Kinds → ℕ) (pins : Pins) (k : Kinds) (gaps limit left budget : ℕ) (lemmas : List TrackLemma) → AreTried rule value pins k gaps limit left budget lemmas → IsKeptWithinBy rule value pins k gaps limit budget lemmas
+tried_kept rule value pins k gaps limit left budget lemmas h = record {
   lists = h.lists;
   limits = h.limits;
   kept = h.kept;

@@ -16,15 +16,17 @@ use Rattle.row_state.proofs.Calls.{fewer_after}
 use Rattle.row_state.proofs.Exists.{completion_exists}
 use Rattle.row_state.proofs.Unfold.{unfold_from}
 use Rattle.row_state.proofs.Valid.{gates_are_nets}
+use Rattle.track_ways.specs.Lines.{LineRule}
 use Rattle.track_ways.specs.Paths.{EndsFit}
 use Rattle.track_ways.specs.States.{is_behind, is_open_at, is_still_ahead}
 use Rattle.track_ways.specs.Tracks.{AreKeys}
-use Rattle.track_ways.specs.Ways.{goes_ways, is_behind_step}
+use Rattle.track_ways.specs.Rules.{IsRule}
+use Rattle.track_ways.specs.Ways.{LineWays, goes_ways_by, is_behind_step}
 use Rattle.track_ways.specs.declared.track.NetTrack.{NetTrack}
 use Rattle.track_ways.proofs.Failing.{start_open}
 use Rattle.track_ways.proofs.LineParts.{same_tests}
 use Rattle.track_ways.proofs.Path.{StepsOf, ends_after, steps_of}
-use Rattle.track_ways.proofs.Steps.{step_behind, step_keys}
+use Rattle.track_ways.proofs.Steps.{step_behind, step_keys_by}
 use Rattle.track_search.specs.declared.ahead.Ahead.{Ahead}
 use Rattle.track_search.specs.Visit.{AreWaysAt, GoOn, IsAhead}
 
@@ -54,16 +56,16 @@ onward pins limit k s allowed most step ahead some fit le a = record {
 }
 
 -- the ways list the tracks of the nets that are open there
-pub keys_after : (pins : Pins) (limit : ℕ) (k : Kinds) (s : State) (step : Step) (way next : List NetTrack) → AreSomeKinds k → IsState k s → EndsFit k s → IsPossible k s step → AreKeys pins (is_behind k s) (is_still_ahead k s) way → Contains (goes_ways pins limit k s way step) next → AreKeys pins (is_behind k (state_after k s step)) (is_still_ahead k (state_after k s step)) next
-keys_after pins limit k s step way next some state fit possible keys there =
+pub keys_after : {rule : LineRule} {listing : LineWays} (r : IsRule rule listing) (pins : Pins) (limit : ℕ) (k : Kinds) (s : State) (step : Step) (way next : List NetTrack) → AreSomeKinds k → IsState k s → EndsFit k s → IsPossible k s step → AreKeys pins (is_behind k s) (is_still_ahead k s) way → Contains (goes_ways_by listing pins limit k s way step) next → AreKeys pins (is_behind k (state_after k s step)) (is_still_ahead k (state_after k s step)) next
+keys_after {rule} {listing} r pins limit k s step way next some state fit possible keys there =
     subst (λ (b : NetNo → Bool). AreKeys pins b (is_still_ahead k (state_after k s step)) next) (same_behind k s step (gates_are_nets k some) fit possible)
-    (step_keys pins limit k s step way next some state keys.one there)
+    (step_keys_by r pins limit k s step way next some state keys.one there)
 
-pub ways_after : (pins : Pins) (limit : ℕ) (k : Kinds) (s : State) (step : Step) (ways onward : List (List NetTrack)) → AreSomeKinds k → IsState k s → EndsFit k s → IsPossible k s step → AreWaysAt pins k s ways → All (GoOn pins limit k s step ways) onward → AreWaysAt pins k (state_after k s step) onward
-ways_after pins limit k s step ways onward some state fit possible keys from =
+pub ways_after : {rule : LineRule} {listing : LineWays} (r : IsRule rule listing) (pins : Pins) (limit : ℕ) (k : Kinds) (s : State) (step : Step) (ways onward : List (List NetTrack)) → AreSomeKinds k → IsState k s → EndsFit k s → IsPossible k s step → AreWaysAt pins k s ways → All (GoOn listing pins limit k s step ways) onward → AreWaysAt pins k (state_after k s step) onward
+ways_after {rule} {listing} r pins limit k s step ways onward some state fit possible keys from =
     all_from_contains (AreKeys pins (is_behind k (state_after k s step)) (is_still_ahead k (state_after k s step))) onward (λ next there.
-    let of : Some' (λ way. Contains (goes_ways pins limit k s way step) next) ways = some_from_any (λ way. Contains (goes_ways pins limit k s way step) next) ways (All-contains (GoOn pins limit k s step ways) onward next from there) in
-    keys_after pins limit k s step of.it next some state fit possible (All-contains (AreKeys pins (is_behind k s) (is_still_ahead k s)) ways of.it keys of.there) of.holds)
+    let of : Some' (λ way. Contains (goes_ways_by listing pins limit k s way step) next) ways = some_from_any (λ way. Contains (goes_ways_by listing pins limit k s way step) next) ways (All-contains (GoOn listing pins limit k s step ways) onward next from there) in
+    keys_after r pins limit k s step of.it next some state fit possible (All-contains (AreKeys pins (is_behind k s) (is_still_ahead k s)) ways of.it keys of.there) of.holds)
 
 -- no net is open at the start, so no tracks are a way there
 pub start_way : (pins : Pins) (k : Kinds) → AreWaysAt pins k (start_of k) ([] ∷ [])

@@ -1,5 +1,5 @@
 -- What the search for the fewest tracks ends with.
-use Rattle.std.specs.Prelude.{ℕ, ◌≡◌, ◌+◌, ◌<◌, ◌≤◌, ◌⊎◌, List}
+use Rattle.std.specs.Prelude.{ℕ, ◌<◌, ◌≤◌, List}
 use Rattle.cell_num.specs.declared.finger.Fingers.{Fingers}
 use Rattle.cell_num.specs.declared.finger.Row.{Row}
 use Rattle.cell_num.specs.declared.net.NetNo.{NetNo}
@@ -16,16 +16,16 @@ use Rattle.row_state.specs.declared.kind.Kinds.{Kinds}
 use Rattle.row_state.specs.declared.state.State.{State}
 use Rattle.row_state.specs.Start.{AreKinds}
 use Rattle.track_ways.specs.Channel.{AreTrunks}
+use Rattle.track_ways.specs.Lines.{StraightFits}
 use Rattle.track_ways.specs.declared.lemma.TrackLemma.{TrackLemma}
-use Rattle.track_ways.specs.Certificate.{Certifies}
 use Rattle.track_search.specs.declared.fewest.Fewest.{Fewest}
 use Rattle.track_search.specs.declared.fewest.Fewest.TheVariants as ended
-use Rattle.track_search.specs.Kept.{IsSpent}
+use Rattle.track_search.specs.FewestBy.{IsOpenBy, ProveBy}
 use Rattle.track_search.specs.Limit.{IsFirstRow}
 
 -- the lemmas certify that no row has one track less, where the tracks are some
 abbrev pub Prove : (Row → State → Kinds → ℕ) → Pins → Kinds → ℕ → ℕ → List TrackLemma → Type 0
-Prove value pins k gaps tracks lemmas = (limit : ℕ) → tracks ≡ limit + 1 → Certifies value pins limit k gaps lemmas
+Prove = ProveBy StraightFits
 
 -- the row is the first on the tracks, and none has fewer
 pub record IsFirstOn
@@ -74,6 +74,4 @@ AreAtMost most (ended.Open proved lemmas) = proved ≤ most
 
 -- no row has tracks below the most, or the budget is spent
 abbrev pub IsOpen : (Row → State → Kinds → ℕ) → Pins → Kinds → ℕ → ℕ → ℕ → Fewest → Type 0
-IsOpen value pins k gaps most budget (ended.Found row tracks lemmas) = Unit {0}
-IsOpen value pins k gaps most budget (ended.Open proved lemmas) =
-    (proved ≡ most) ⊎ IsSpent value pins k gaps proved budget
+IsOpen = IsOpenBy StraightFits

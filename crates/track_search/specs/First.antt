@@ -8,32 +8,34 @@ use Rattle.row_state.specs.declared.step.Step.{Step}
 use Rattle.row_state.specs.Completion.{further_gaps}
 use Rattle.row_state.specs.Order.{RowBefore}
 use Rattle.row_state.specs.Steps.{column_of}
-use Rattle.track_ways.specs.Paths.{Leads, Runs}
+use Rattle.track_ways.specs.Lines.{LineRule}
+use Rattle.track_ways.specs.Paths.{Leads, RunsBy}
 use Rattle.track_ways.specs.declared.track.NetTrack.{NetTrack}
 use Rattle.track_ways.specs.Tracks.{AreTracksOf}
 
--- tracks of one of the ways go along the steps
-pub record RunsOn (pins : Pins) (limit : ℕ) (k : Kinds) (s : State) (ways : List (List NetTrack)) (steps : List Step)
-    : Type 0 where
+-- by a rule, tracks of one of the ways go along the steps
+pub record RunsOn
+    (rule : LineRule) (pins : Pins) (limit : ℕ) (k : Kinds) (s : State) (ways : List (List NetTrack))
+    (steps : List Step) : Type 0 where
   pub way : List NetTrack
   pub there : Contains ways way
   pub track : NetNo → ℕ
   pub lie : AreTracksOf way track
-  pub runs : Runs pins limit k s track steps
+  pub runs : RunsBy rule pins limit k s track steps
 
 -- the steps complete the state with at most that many further gaps, and tracks of one of the ways go along them
 pub record IsRouted
-    (pins : Pins) (limit : ℕ) (k : Kinds) (s : State) (ways : List (List NetTrack)) (gaps : ℕ) (steps : List Step)
-    : Type 0 where
+    (rule : LineRule) (pins : Pins) (limit : ℕ) (k : Kinds) (s : State) (ways : List (List NetTrack)) (gaps : ℕ)
+    (steps : List Step) : Type 0 where
   pub leads : Leads k s steps
   pub within : further_gaps s (map (column_of k) steps) ≤ gaps
-  pub on : RunsOn pins limit k s ways steps
+  pub on : RunsOn rule pins limit k s ways steps
 
 -- and no others precede them
 pub record IsFirstRouted
-    (pins : Pins) (limit : ℕ) (k : Kinds) (s : State) (ways : List (List NetTrack)) (gaps : ℕ) (steps : List Step)
-    : Type 0 where
-  pub routed : IsRouted pins limit k s ways gaps steps
-  pub first : (other : List Step) → IsRouted pins limit k s ways gaps other
+    (rule : LineRule) (pins : Pins) (limit : ℕ) (k : Kinds) (s : State) (ways : List (List NetTrack)) (gaps : ℕ)
+    (steps : List Step) : Type 0 where
+  pub routed : IsRouted rule pins limit k s ways gaps steps
+  pub first : (other : List Step) → IsRouted rule pins limit k s ways gaps other
       → (map (column_of k) steps ≡ map (column_of k) other)
       ⊎ RowBefore (map (column_of k) steps) (map (column_of k) other)

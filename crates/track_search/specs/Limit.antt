@@ -1,5 +1,5 @@
 -- What the search for a row with tracks below a limit ends with.
-use Rattle.std.specs.Prelude.{ℕ, ◌≡◌, ◌≤◌, ◌<◌, ◌⊎◌, List, [], length}
+use Rattle.std.specs.Prelude.{ℕ, ◌≡◌, ◌≤◌, ◌<◌, ◌⊎◌, List, []}
 use Rattle.cell_num.specs.declared.finger.Fingers.{Fingers}
 use Rattle.cell_num.specs.declared.finger.Row.{Row}
 use Rattle.cell_num.specs.declared.net.NetNo.{NetNo}
@@ -16,12 +16,12 @@ use Rattle.row_state.specs.declared.state.State.{State}
 use Rattle.row_state.specs.Order.{RowBefore}
 use Rattle.row_state.specs.Start.{AreKinds}
 use Rattle.track_ways.specs.Channel.{AreLegalWithin, AreTrunks}
-use Rattle.track_ways.specs.Lines.{Fits, is_ahead}
+use Rattle.track_ways.specs.Lines.{Fits, StraightFits, is_ahead}
 use Rattle.track_ways.specs.Rows.{lines_of_row}
 use Rattle.track_ways.specs.Certificate.{Certifies}
 use Rattle.track_search.specs.declared.limit.Limit.{Limit}
 use Rattle.track_search.specs.declared.limit.Limit.TheVariants as ended
-use Rattle.track_search.specs.Kept.{AreKept, IsSpentBelow}
+use Rattle.track_search.specs.LimitBy.{HasReasonBy}
 
 -- one track below the limit for each net, which fits each line of the row: trunks on these tracks are legal, but that a
 -- track may be empty
@@ -56,7 +56,4 @@ NeedsMoreTracks pins limit k gaps _ = Unit {0}
 -- No lemma of a certificate follows from an earlier one, and there are no more than the budget. The budget is spent for
 -- a reason.
 abbrev pub HasReason : (Row → State → Kinds → ℕ) → Pins → ℕ → Kinds → ℕ → ℕ → Limit → Type 0
-HasReason value pins limit k gaps budget (ended.Found row) = Unit {0}
-HasReason value pins limit k gaps budget (ended.Refuted lemmas) =
-    AreKept value pins limit k gaps lemmas × (length lemmas ≤ budget)
-HasReason value pins limit k gaps budget ended.Spent = IsSpentBelow value pins limit k gaps budget
+HasReason = HasReasonBy StraightFits

@@ -13,16 +13,17 @@ use Rattle.row_state.specs.Steps.{IsPossible, column_of, state_after}
 use Rattle.track_ways.specs.Crowds.{step_uncrowded}
 use Rattle.track_ways.specs.States.{is_behind, is_open_at, is_still_ahead}
 use Rattle.track_ways.specs.Tracks.{AreKeys, IsSingle}
-use Rattle.track_ways.specs.Ways.{ends_ways, goes_ways}
+use Rattle.track_ways.specs.Lines.{LineRule}
+use Rattle.track_ways.specs.Ways.{LineWays, ends_ways_by, goes_ways_by}
 use Rattle.track_ways.specs.declared.track.NetTrack.{NetTrack}
 use Rattle.track_ways.specs.declared.lemma.TrackLemma.{TrackLemma}
 use Rattle.track_ways.specs.Checked.{CoversListed}
-use Rattle.track_check.specs.Steps.{StepFailsListed}
+use Rattle.track_check.specs.Steps.{StepFailsListedBy}
 use Rattle.track_search.specs.declared.ahead.Ahead.{Ahead}
 use Rattle.track_search.specs.declared.progress.Progress.{Progress}
 use Rattle.track_search.specs.Bare.{IsNoted}
 use Rattle.track_search.specs.InOrder.{in_order}
-use Rattle.track_search.specs.Kept.{AreKept}
+use Rattle.track_search.specs.Kept.{AreKeptBy}
 
 abbrev pub lemma_at : State → ℕ → List NetTrack → TrackLemma
 lemma_at s gaps way = record { state = s; gaps = gaps; tracks = way }
@@ -59,9 +60,9 @@ pub record AreFresh (lemmas : List TrackLemma) (s : State) (gaps : ℕ) (ways : 
 
 -- whatever the tracks are, the column leaves a lemma on the state justified
 abbrev pub ColumnFails :
-    (Row → State → Kinds → ℕ) → Pins → ℕ → Kinds → List TrackLemma → State → ℕ → Step → Type 0
-ColumnFails value pins limit k lemmas s allowed step =
-    (way : List NetTrack) → StepFailsListed value pins limit k lemmas (lemma_at s allowed way) step
+    LineWays → (Row → State → Kinds → ℕ) → Pins → ℕ → Kinds → List TrackLemma → State → ℕ → Step → Type 0
+ColumnFails listing value pins limit k lemmas s allowed step =
+    (way : List NetTrack) → StepFailsListedBy listing value pins limit k lemmas (lemma_at s allowed way) step
 
 -- the state after a possible next column that leaves no line crowded, and the gaps that are left there
 pub record IsAhead
@@ -78,13 +79,15 @@ IsTaken lemmas s left ways way = Any (CoversListed s left way) lemmas ⊎ Any (H
 
 -- so it is of each way after the column from these tracks
 abbrev pub AreTaken :
-    Pins → ℕ → Kinds → List TrackLemma → State → Step → State → ℕ → List (List NetTrack) → List NetTrack → Type 0
-AreTaken pins limit k lemmas s step after left onward way =
-    All (IsTaken lemmas after left onward) (goes_ways pins limit k s way step)
+    LineWays → Pins → ℕ → Kinds → List TrackLemma → State → Step → State → ℕ → List (List NetTrack) → List NetTrack
+    → Type 0
+AreTaken listing pins limit k lemmas s step after left onward way =
+    All (IsTaken lemmas after left onward) (goes_ways_by listing pins limit k s way step)
 
 -- the way is one after the column, from one of the ways before it
-abbrev pub GoOn : Pins → ℕ → Kinds → State → Step → List (List NetTrack) → List NetTrack → Type 0
-GoOn pins limit k s step ways next = Any (λ way. Contains (goes_ways pins limit k s way step) next) ways
+abbrev pub GoOn : LineWays → Pins → ℕ → Kinds → State → Step → List (List NetTrack) → List NetTrack → Type 0
+GoOn listing pins limit k s step ways next =
+    Any (λ way. Contains (goes_ways_by listing pins limit k s way step) next) ways
 
 -- of the found ways those of which no lemma speaks were added, as far as they are done
 pub record AreAdded
@@ -96,27 +99,29 @@ pub record AreAdded
   pub taken : All (IsTaken lemmas s left after) done
 
 -- no tracks go through the last line
-abbrev pub EndsFail : Pins → ℕ → Kinds → State → List NetTrack → Type 0
-EndsFail pins limit k s way = ends_ways pins limit k s way ≡ []
+abbrev pub EndsFail : LineWays → Pins → ℕ → Kinds → State → List NetTrack → Type 0
+EndsFail listing pins limit k s way = ends_ways_by listing pins limit k s way ≡ []
 
 -- no finger is left, and tracks go through the last line
-pub record EndsGo (pins : Pins) (limit : ℕ) (k : Kinds) (s : State) (ways : List (List NetTrack)) : Type 0 where
+pub record EndsGo
+    (listing : LineWays) (pins : Pins) (limit : ℕ) (k : Kinds) (s : State) (ways : List (List NetTrack))
+    : Type 0 where
   pub none : HasFingers k s → ⊥
-  pub go : Any (λ way. EndsFail pins limit k s way → ⊥) ways
+  pub go : Any (λ way. EndsFail listing pins limit k s way → ⊥) ways
 
 -- Lemmas of a search are kept, no more of them than the budget, and noted.
 pub record IsKept
-    (value : Row → State → Kinds → ℕ) (pins : Pins) (limit : ℕ) (k : Kinds) (gaps budget : ℕ) (progress : Progress)
-    : Type 0 where
-  pub kept : AreKept value pins limit k gaps progress.lemmas
+    (rule : LineRule) (value : Row → State → Kinds → ℕ) (pins : Pins) (limit : ℕ) (k : Kinds) (gaps budget : ℕ)
+    (progress : Progress) : Type 0 where
+  pub kept : AreKeptBy rule value pins limit k gaps progress.lemmas
   pub few : length progress.lemmas ≤ budget
   pub noted : IsNoted value pins limit k progress
 
 -- So they are after a visit. Those before it come first; the others are of states with fewer columns left than these.
 pub record IsGrown
-    (value : Row → State → Kinds → ℕ) (pins : Pins) (limit : ℕ) (k : Kinds) (gaps budget columns : ℕ)
-    (before after : Progress) : Type 0 where
-  pub kept : IsKept value pins limit k gaps budget after
+    (rule : LineRule) (value : Row → State → Kinds → ℕ) (pins : Pins) (limit : ℕ) (k : Kinds)
+    (gaps budget columns : ℕ) (before after : Progress) : Type 0 where
+  pub kept : IsKept rule value pins limit k gaps budget after
   pub more : List TrackLemma
   pub is : after.lemmas ≡ before.lemmas ++ more
   pub fewer : All (λ (lemma : TrackLemma). columns_left k lemma.state < columns) more

@@ -9,7 +9,7 @@ ghost use Rattle.track_check.specs.Touches.{AreTouches};
 ghost use Rattle.track_ways.specs.Crowds.{step_uncrowded};
 ghost use Rattle.track_ways.specs.States.{is_behind};
 ghost use Rattle.track_ways.specs.Tables.{marked};
-ghost use Rattle.track_ways.specs.Ways.{goes_ways};
+ghost use Rattle.track_ways.specs.Ways.{goes_ways_by};
 ghost use Rattle.track_ways.specs.declared.track.NetTrack.{NetTrack};
 ghost use Rattle.track_search.specs.Bare.{IsNoted};
 ghost use Rattle.track_search.specs.Visit.{ColumnFails, IsAhead, IsKept};
@@ -22,7 +22,7 @@ use row_state::{Candidate, Kinds, Numbered, RowBound, State, Step};
 use row_trails::NETS;
 use std::alloc::Global;
 use track_check::{state_nets, touches};
-use track_ways::step_uncrowded;
+use track_ways::{TrackRule, step_uncrowded};
 
 /// What a search is given.
 #[derive(Clone, Copy)]
@@ -64,7 +64,7 @@ pub(crate) fn nets_before<B: RowBound>(task: &Task<B>, state: &State) -> [bool; 
 
 // How many gaps are allowed after the column, or none where it may not come next, needs more gaps than are allowed, or
 // leads to a state of which it is known that these are too few, or that a kept lemma without tracks is about.
-fn gaps_after<B: RowBound>(
+fn gaps_after<R: TrackRule, B: RowBound>(
     task: &Task<B>,
     progress: &Progress,
     at: &Numbered,
@@ -75,7 +75,7 @@ fn gaps_after<B: RowBound>(
     requires next { IsCandidate task.now.kinds.now next.now }
     requires noted { IsNoted (B.value task.now.bound.now) task.now.pins.now task.now.limit task.now.kinds.now
         progress.now }
-    ensures none { IfNone result (ColumnFails (B.value task.now.bound.now) task.now.pins.now task.now.limit
+    ensures none { IfNone result (ColumnFails R.ways (B.value task.now.bound.now) task.now.pins.now task.now.limit
         task.now.kinds.now progress.now.lemmas at.now.state allowed next.now.step) }
     ensures possible { IfSome result (λ _. IsPossible task.now.kinds.now at.now.state next.now.step) }
     ensures left { IfSome result (λ left. cost_of at.now.state (column_of task.now.kinds.now next.now.step) + left
@@ -97,7 +97,7 @@ fn gaps_after<B: RowBound>(
 }
 
 // Whether no line to the column is crowded. `after` is the state after it.
-fn is_uncrowded<B: RowBound>(
+fn is_uncrowded<R: TrackRule, B: RowBound>(
     task: &Task<B>,
     state: &State,
     before: &[bool; NETS],
@@ -111,8 +111,9 @@ fn is_uncrowded<B: RowBound>(
     ensures is { IfOk result (λ free. free ≡ step_uncrowded task.now.pins.now task.now.limit task.now.kinds.now
         state.now step.now) }
     ensures crowded { IfOk result (λ free. free ≡ false → (tracks : List NetTrack)
-        → goes_ways task.now.pins.now task.now.limit task.now.kinds.now state.now tracks step.now ≡ []) }
+        → goes_ways_by R.ways task.now.pins.now task.now.limit task.now.kinds.now state.now tracks step.now ≡ []) }
 {
+    task.kinds.show_limits();
     let nets = nets_after(task.kinds, after);
     let free = step_uncrowded(
         task.alloc, task.pins, task.limit, task.kinds, state, before, step, &nets,
@@ -123,7 +124,7 @@ fn is_uncrowded<B: RowBound>(
 /// The state after the column, or none where the column may not come next, needs more gaps than are allowed, leaves a
 /// line crowded, or leads to a state that a kept lemma without tracks is about. `before` has the nets with a place
 /// before the state.
-pub(crate) fn state_ahead<B: RowBound>(
+pub(crate) fn state_ahead<R: TrackRule, B: RowBound>(
     task: &Task<B>,
     progress: &mut Progress,
     trails: &mut RowTrails,
@@ -135,27 +136,27 @@ pub(crate) fn state_ahead<B: RowBound>(
     requires numbered { IsNumbered task.now.kinds.now at.now }
     requires before { marked before.now ≡ is_behind task.now.kinds.now at.now.state }
     requires next { IsCandidate task.now.kinds.now next.now }
-    requires kept { IsKept (B.value task.now.bound.now) task.now.pins.now task.now.limit task.now.kinds.now
+    requires kept { IsKept R.fits (B.value task.now.bound.now) task.now.pins.now task.now.limit task.now.kinds.now
         task.now.gaps task.now.budget progress.old }
     requires trails { AreNoted (B.trails_of task.now.bound.now) task.now.kinds.now trails.old }
     ensures trails { AreNoted (B.trails_of task.now.bound.now) task.now.kinds.now trails.new }
-    ensures kept { OnOk result (IsKept (B.value task.now.bound.now) task.now.pins.now task.now.limit
+    ensures kept { OnOk result (IsKept R.fits (B.value task.now.bound.now) task.now.pins.now task.now.limit
         task.now.kinds.now task.now.gaps task.now.budget progress.new) }
     ensures lemmas { progress.new.lemmas ≡ progress.old.lemmas }
-    ensures none { IfOk result (λ ahead. IfNone ahead (ColumnFails (B.value task.now.bound.now) task.now.pins.now
+    ensures none { IfOk result (λ ahead. IfNone ahead (ColumnFails R.ways (B.value task.now.bound.now) task.now.pins.now
         task.now.limit task.now.kinds.now progress.new.lemmas at.now.state allowed next.now.step)) }
     ensures some { IfOk result (λ ahead. IfSome ahead (IsAhead task.now.pins.now task.now.limit task.now.kinds.now
         at.now.state allowed next.now.step)) }
 {
     task.kinds.show_limits();
-    let Some(left) = gaps_after(task, progress, at, next, allowed) else {
+    let Some(left) = gaps_after::<R, B>(task, progress, at, next, allowed) else {
         return Ok(None);
     };
     let state = at.behind(task.alloc, task.kinds, next)?;
     if progress.needs_more(task, trails, &state, left)? {
         return Ok(None);
     }
-    if !is_uncrowded(task, &at.state, before, &next.step, &state.state)? {
+    if !is_uncrowded::<R, B>(task, &at.state, before, &next.step, &state.state)? {
         return Ok(None);
     }
     Ok(Some(Ahead { state, left }))

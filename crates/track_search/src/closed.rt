@@ -9,7 +9,7 @@ ghost use Rattle.track_ways.specs.Paths.{EndsFit};
 ghost use Rattle.track_ways.specs.States.{is_behind};
 ghost use Rattle.track_ways.specs.Tables.{marked};
 ghost use Rattle.track_check.specs.Touches.{AreTouches};
-ghost use Rattle.track_search.specs.Kept.{IsSpentBelow};
+ghost use Rattle.track_search.specs.Kept.{IsSpentBelowBy};
 ghost use Rattle.track_search.specs.Uncrowded.{HasUncrowded};
 ghost use Rattle.track_search.specs.Visit.{ColumnFails, EndsFail, IsAhead, IsGrown, IsKept};
 ghost use Rattle.cell_num.specs.declared.halt.Halt.TheVariants.{Spent};
@@ -20,10 +20,10 @@ use cell_num::{Halt, NoMemory};
 use lemma_check::RowTrails;
 use row_state::{Candidate, Numbered, RowBound, State, has_fingers};
 use row_trails::NETS;
-use track_ways::{NetTracks, end_uncrowded};
+use track_ways::{NetTracks, TrackRule, end_uncrowded};
 
 // Whether no finger is left and the last line is not crowded. `before` has the nets with a place before it.
-fn ends_open<B: RowBound>(
+fn ends_open<R: TrackRule, B: RowBound>(
     task: &Task<B>,
     state: &State,
     before: &[bool; NETS],
@@ -31,13 +31,14 @@ fn ends_open<B: RowBound>(
     requires state { IsState task.now.kinds.now state.now }
     requires before { marked before.now ≡ is_behind task.now.kinds.now state.now }
     ensures no { IfOk result (λ r. r ≡ false → (HasFingers task.now.kinds.now state.now → ⊥)
-        → All (EndsFail task.now.pins.now task.now.limit task.now.kinds.now state.now) ([] ∷ [])) }
+        → All (EndsFail R.ways task.now.pins.now task.now.limit task.now.kinds.now state.now) ([] ∷ [])) }
     ensures yes { IfOk result (λ r. IsTrue r → (gaps : ℕ) → HasUncrowded task.now.pins.now task.now.limit
         task.now.kinds.now state.now gaps) }
 {
     if has_fingers(state) {
         return Ok(false);
     }
+    task.kinds.show_limits();
     let open = end_uncrowded(task.alloc, task.pins, task.limit, task.kinds, state, before)?;
     Ok(open)
 }
@@ -45,7 +46,7 @@ fn ends_open<B: RowBound>(
 /// Whether a kept lemma without tracks is about the state and as many gaps as are allowed. It asks for one and keeps
 /// it where each completion has a crowded line. Where it answers false, some completion with that many gaps has none.
 #[cycle(closing)]
-pub(crate) fn closes<B: RowBound>(
+pub(crate) fn closes<R: TrackRule, B: RowBound>(
     task: &Task<B>,
     progress: &mut Progress,
     trails: &mut RowTrails,
@@ -57,18 +58,18 @@ pub(crate) fn closes<B: RowBound>(
     requires numbered { IsNumbered task.now.kinds.now at.now }
     requires ends { EndsFit task.now.kinds.now at.now.state }
     requires gaps { allowed ≤ task.now.gaps }
-    requires kept { IsKept (B.value task.now.bound.now) task.now.pins.now task.now.limit task.now.kinds.now
+    requires kept { IsKept R.fits (B.value task.now.bound.now) task.now.pins.now task.now.limit task.now.kinds.now
         task.now.gaps task.now.budget progress.old }
     requires trails { AreNoted (B.trails_of task.now.bound.now) task.now.kinds.now trails.old }
     ensures trails { AreNoted (B.trails_of task.now.bound.now) task.now.kinds.now trails.new }
-    ensures grown { OnOk result (IsGrown (B.value task.now.bound.now) task.now.pins.now task.now.limit
+    ensures grown { OnOk result (IsGrown R.fits (B.value task.now.bound.now) task.now.pins.now task.now.limit
         task.now.kinds.now task.now.gaps task.now.budget (columns_left task.now.kinds.now at.now.state + 1)
         progress.old progress.new) }
     ensures closed { IfOk result (λ closed. IsTrue closed → Any (CoversAll at.now.state allowed) progress.new.lemmas) }
     ensures free { IfOk result (λ closed. closed ≡ false → HasUncrowded task.now.pins.now task.now.limit
         task.now.kinds.now at.now.state allowed) }
-    ensures spent { IfErr result (λ halt. halt ≡ Spent → IsSpentBelow (B.value task.now.bound.now) task.now.pins.now
-        task.now.limit task.now.kinds.now task.now.gaps task.now.budget) }
+    ensures spent { IfErr result (λ halt. halt ≡ Spent → IsSpentBelowBy R.fits (B.value task.now.bound.now)
+        task.now.pins.now task.now.limit task.now.kinds.now task.now.gaps task.now.budget) }
 {
     task.kinds.show_limits();
     if progress.is_free(task, at, allowed) {
@@ -78,12 +79,12 @@ pub(crate) fn closes<B: RowBound>(
         return Ok(true);
     }
     let before = nets_before(task, &at.state);
-    if ends_open(task, &at.state, &before)? {
+    if ends_open::<R, B>(task, &at.state, &before)? {
         progress.note_free(task, at, allowed)?;
         return Ok(false);
     }
     for next in task.candidates {
-        let opened = match open_ahead(task, progress, trails, at, &before, next, allowed) {
+        let opened = match open_ahead::<R, B>(task, progress, trails, at, &before, next, allowed) {
             Ok(opened) => opened,
             Err(halt) => return Err(halt),
         };
@@ -102,7 +103,7 @@ pub(crate) fn closes<B: RowBound>(
 /// The state after the column with a completion that has no crowded line, or none where the column fails whatever the
 /// tracks are. `before` has the nets with a place before the state.
 #[cycle(closing)]
-pub(crate) fn open_ahead<B: RowBound>(
+pub(crate) fn open_ahead<R: TrackRule, B: RowBound>(
     task: &Task<B>,
     progress: &mut Progress,
     trails: &mut RowTrails,
@@ -118,27 +119,27 @@ pub(crate) fn open_ahead<B: RowBound>(
     requires before { marked before.now ≡ is_behind task.now.kinds.now at.now.state }
     requires next { IsCandidate task.now.kinds.now next.now }
     requires gaps { allowed ≤ task.now.gaps }
-    requires kept { IsKept (B.value task.now.bound.now) task.now.pins.now task.now.limit task.now.kinds.now
+    requires kept { IsKept R.fits (B.value task.now.bound.now) task.now.pins.now task.now.limit task.now.kinds.now
         task.now.gaps task.now.budget progress.old }
     requires trails { AreNoted (B.trails_of task.now.bound.now) task.now.kinds.now trails.old }
     ensures trails { AreNoted (B.trails_of task.now.bound.now) task.now.kinds.now trails.new }
-    ensures grown { OnOk result (IsGrown (B.value task.now.bound.now) task.now.pins.now task.now.limit
+    ensures grown { OnOk result (IsGrown R.fits (B.value task.now.bound.now) task.now.pins.now task.now.limit
         task.now.kinds.now task.now.gaps task.now.budget (columns_left task.now.kinds.now at.now.state)
         progress.old progress.new) }
-    ensures none { IfOk result (λ ahead. IfNone ahead (ColumnFails (B.value task.now.bound.now) task.now.pins.now
+    ensures none { IfOk result (λ ahead. IfNone ahead (ColumnFails R.ways (B.value task.now.bound.now) task.now.pins.now
         task.now.limit task.now.kinds.now progress.new.lemmas at.now.state allowed next.now.step)) }
     ensures some { IfOk result (λ ahead. IfSome ahead (IsAhead task.now.pins.now task.now.limit task.now.kinds.now
         at.now.state allowed next.now.step)) }
     ensures free { IfOk result (λ ahead. IfSome ahead (λ _. HasUncrowded task.now.pins.now task.now.limit
         task.now.kinds.now at.now.state allowed)) }
-    ensures spent { IfErr result (λ halt. halt ≡ Spent → IsSpentBelow (B.value task.now.bound.now) task.now.pins.now
-        task.now.limit task.now.kinds.now task.now.gaps task.now.budget) }
+    ensures spent { IfErr result (λ halt. halt ≡ Spent → IsSpentBelowBy R.fits (B.value task.now.bound.now)
+        task.now.pins.now task.now.limit task.now.kinds.now task.now.gaps task.now.budget) }
 {
     task.kinds.show_limits();
-    let Some(ahead) = state_ahead(task, progress, trails, at, before, next, allowed)? else {
+    let Some(ahead) = state_ahead::<R, B>(task, progress, trails, at, before, next, allowed)? else {
         return Ok(None);
     };
-    let closed = match closes(task, progress, trails, &ahead.state, ahead.left) {
+    let closed = match closes::<R, B>(task, progress, trails, &ahead.state, ahead.left) {
         Ok(closed) => closed,
         Err(halt) => return Err(halt),
     };

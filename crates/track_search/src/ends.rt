@@ -9,7 +9,7 @@ use crate::ahead::Task;
 use cell_num::NoMemory;
 use row_state::{RowBound, State, has_fingers};
 use row_trails::NETS;
-use track_ways::{NetTracks, TrackWays, last_ways};
+use track_ways::{NetTracks, TrackRule, TrackWays, ways_at_end};
 
 #[tactic(auto, using(track_check::proofs::Failing::no_ways))]
 fn is_empty(ways: &TrackWays) -> bool
@@ -19,7 +19,7 @@ fn is_empty(ways: &TrackWays) -> bool
 }
 
 // Whether no tracks go through the last line from the way.
-fn way_fails<B: RowBound>(
+fn way_fails<R: TrackRule, B: RowBound>(
     task: &Task<B>,
     state: &State,
     before: &[bool; NETS],
@@ -27,17 +27,17 @@ fn way_fails<B: RowBound>(
 ) -> Result<bool, NoMemory>
     requires state { IsState task.now.kinds.now state.now }
     requires before { marked before.now ≡ is_behind task.now.kinds.now state.now }
-    ensures { IfOk result (λ fails. IsTrue fails ↔ EndsFail task.now.pins.now task.now.limit task.now.kinds.now
+    ensures { IfOk result (λ fails. IsTrue fails ↔ EndsFail R.ways task.now.pins.now task.now.limit task.now.kinds.now
         state.now way.now) }
 {
-    let last = last_ways(
+    let last = ways_at_end::<R>(
         task.alloc, task.pins, task.limit, task.kinds, state, before, way,
     )?;
     Ok(is_empty(&last))
 }
 
 // Whether tracks go through the last line from one of the ways.
-fn some_way_ends<B: RowBound>(
+fn some_way_ends<R: TrackRule, B: RowBound>(
     task: &Task<B>,
     state: &State,
     before: &[bool; NETS],
@@ -45,13 +45,13 @@ fn some_way_ends<B: RowBound>(
 ) -> Result<bool, NoMemory>
     requires state { IsState task.now.kinds.now state.now }
     requires before { marked before.now ≡ is_behind task.now.kinds.now state.now }
-    ensures yes { IfOk result (λ go. IsTrue go → Any (λ way. EndsFail task.now.pins.now task.now.limit
+    ensures yes { IfOk result (λ go. IsTrue go → Any (λ way. EndsFail R.ways task.now.pins.now task.now.limit
         task.now.kinds.now state.now way → ⊥) ways.now) }
-    ensures no { IfOk result (λ go. go ≡ false → All (EndsFail task.now.pins.now task.now.limit
+    ensures no { IfOk result (λ go. go ≡ false → All (EndsFail R.ways task.now.pins.now task.now.limit
         task.now.kinds.now state.now) ways.now) }
 {
     for way in ways {
-        if !way_fails(task, state, before, way)? {
+        if !way_fails::<R, B>(task, state, before, way)? {
             return Ok(true);
         }
     }
@@ -60,7 +60,7 @@ fn some_way_ends<B: RowBound>(
 
 /// Whether no finger is left and tracks go through the last line from one of the ways. `before` has the nets with a
 /// place before the state.
-pub(crate) fn ends<B: RowBound>(
+pub(crate) fn ends<R: TrackRule, B: RowBound>(
     task: &Task<B>,
     state: &State,
     before: &[bool; NETS],
@@ -68,14 +68,14 @@ pub(crate) fn ends<B: RowBound>(
 ) -> Result<bool, NoMemory>
     requires state { IsState task.now.kinds.now state.now }
     requires before { marked before.now ≡ is_behind task.now.kinds.now state.now }
-    ensures yes { IfOk result (λ go. IsTrue go → EndsGo task.now.pins.now task.now.limit task.now.kinds.now state.now
-        ways.now) }
+    ensures yes { IfOk result (λ go. IsTrue go → EndsGo R.ways task.now.pins.now task.now.limit task.now.kinds.now
+        state.now ways.now) }
     ensures no { IfOk result (λ go. go ≡ false → (HasFingers task.now.kinds.now state.now → ⊥)
-        → All (EndsFail task.now.pins.now task.now.limit task.now.kinds.now state.now) ways.now) }
+        → All (EndsFail R.ways task.now.pins.now task.now.limit task.now.kinds.now state.now) ways.now) }
 {
     if has_fingers(state) {
         return Ok(false);
     }
-    let go = some_way_ends(task, state, before, ways.as_slice())?;
+    let go = some_way_ends::<R, B>(task, state, before, ways.as_slice())?;
     Ok(go)
 }

@@ -17,7 +17,7 @@ mod onward;
 mod order;
 mod progress;
 
-pub use fewest::{Fewest, fewest_tracks};
+pub use fewest::{Fewest, fewest_tracks, fewest_tracks_by};
 pub use laws::sound_pins;
-pub use limit::{Limit, search_limit};
+pub use limit::{Limit, search_limit, search_limit_by};
 pub use lowest::{Lowest, lowest_row};

@@ -15,7 +15,7 @@ use row_state::{Candidate, Numbered, RowBound, State};
 use row_trails::NETS;
 use std::alloc::Global;
 use track_check::{NotedLemmas, lists};
-use track_ways::{NetTracks, TrackWays, step_ways};
+use track_ways::{NetTracks, TrackRule, TrackWays, ways_after};
 
 fn has_part(way: &NetTracks, other: &NetTracks) -> bool
     ensures { IsTrue result ↔ HasPart way.now other.now }
@@ -63,8 +63,9 @@ fn add_new(
     Ok(())
 }
 
-/// The ways after the column of which no lemma speaks, each once. `before` has the nets with a place before the state.
-pub(crate) fn onward_ways<B: RowBound>(
+/// The ways after the column, by the rule, of which no lemma speaks, each once. `before` has the nets with a place
+/// before the state.
+pub(crate) fn onward_ways<R: TrackRule, B: RowBound>(
     task: &Task<B>,
     known: &NotedLemmas,
     state: &State,
@@ -78,16 +79,16 @@ pub(crate) fn onward_ways<B: RowBound>(
     requires valid { IsState task.now.kinds.now ahead.now.state.state }
     requires after { ahead.now.state.state ≡ state_after task.now.kinds.now state.now next.now.step }
     requires noted { AreNotedAt known.now.lemmas.now known.now.places.now ahead.now.state }
-    ensures taken { IfOk result (λ onward. All (AreTaken task.now.pins.now task.now.limit task.now.kinds.now
+    ensures taken { IfOk result (λ onward. All (AreTaken R.ways task.now.pins.now task.now.limit task.now.kinds.now
         known.now.lemmas.now state.now next.now.step ahead.now.state.state ahead.now.left onward) ways.now) }
-    ensures from { IfOk result (λ onward. All (GoOn task.now.pins.now task.now.limit task.now.kinds.now state.now
+    ensures from { IfOk result (λ onward. All (GoOn R.ways task.now.pins.now task.now.limit task.now.kinds.now state.now
         next.now.step ways.now) onward) }
     ensures fresh { IfOk result (AreFresh known.now.lemmas.now ahead.now.state.state ahead.now.left) }
 {
     let nets = nets_after(task.kinds, &ahead.state.state);
     let mut onward = TrackWays::new(task.alloc);
     for way in ways.as_slice() {
-        let found = step_ways(
+        let found = ways_after::<R>(
             task.alloc, task.pins, task.limit, task.kinds, state, before, &next.step, &nets, way,
         )?;
         add_new(

@@ -10,6 +10,6 @@ decreases-visit g l = columns_left l.task.now.kinds.now l.at.now.state
 
 abbrev pub invariant-loop-next : goal.invariant-loop-next
 invariant-loop-next g l =
-    IsGrown (g.B.RowBound.value l.task.bound.now) l.task.pins.now l.task.limit l.task.kinds.now l.task.gaps l.task.budget (columns_left l.task.kinds.now l.at.state) l.fn.progress l.progress
-    × All (WaysFail (g.B.RowBound.value l.task.bound.now) l.task.pins.now l.task.limit l.task.kinds.now l.progress.lemmas l.at.state l.allowed l.ways) (take l.next-index l.next-items)
+    IsGrown g.R.TrackRule.fits (g.B.RowBound.value l.task.bound.now) l.task.pins.now l.task.limit l.task.kinds.now l.task.gaps l.task.budget (columns_left l.task.kinds.now l.at.state) l.fn.progress l.progress
+    × All (WaysFail g.R.TrackRule.ways (g.B.RowBound.value l.task.bound.now) l.task.pins.now l.task.limit l.task.kinds.now l.progress.lemmas l.at.state l.allowed l.ways) (take l.next-index l.next-items)
     × AreNoted (g.B.RowBound.trails_of l.task.bound.now) l.task.kinds.now l.trails

@@ -9,8 +9,8 @@ returns-then-has_fingers-clause-no g c = λ e none. absurd (none ((c.has_fingers
 pub returns-clause-yes : goal.returns-clause-yes
 returns-clause-yes g c = λ e. record {
   none = λ has. both_ways c.has_fingers.result c.if-has_fingers.false ((c.has_fingers.ensures c.args.task.now.kinds.now c.requires.state).1 has);
-  go = subst (Any (λ way. EndsFail c.args.task.now.pins.now c.args.task.now.limit c.args.task.now.kinds.now c.args.state.now way → ⊥)) c.as_slice.ensures (c.in_ok-go.ensures.yes e);
+  go = subst (Any (λ way. EndsFail g.R.TrackRule.ways c.args.task.now.pins.now c.args.task.now.limit c.args.task.now.kinds.now c.args.state.now way → ⊥)) c.as_slice.ensures (c.in_ok-go.ensures.yes e);
 }
 
 pub returns-clause-no : goal.returns-clause-no
-returns-clause-no g c = λ e none. subst (All (EndsFail c.args.task.now.pins.now c.args.task.now.limit c.args.task.now.kinds.now c.args.state.now)) c.as_slice.ensures (c.in_ok-go.ensures.no e)
+returns-clause-no g c = λ e none. subst (All (EndsFail g.R.TrackRule.ways c.args.task.now.pins.now c.args.task.now.limit c.args.task.now.kinds.now c.args.state.now)) c.as_slice.ensures (c.in_ok-go.ensures.no e)

@@ -1,20 +1,17 @@
-use Rattle.std.proofs.Common.{subst, sym}
-use Rattle.row_state.specs.Candidates.{AreCandidates}
-use Rattle.track_check.specs.Touches.{AreTouches}
+use Rattle.track_search.specs.Fewest.{IsFewest}
 use Rattle.track_search.proofs.Least.{legal_tracks, take_tracks}
+use Rattle.track_search.proofs.Straight.{straight_fewest}
 use Rattle.track_search.proofs.fewest.fewest_tracks.Goals as goal
 
-pub try_limits-requires : goal.try_limits-requires
-try_limits-requires g c = record {
-  candidates = subst (AreCandidates c.args.kinds.now) (sym c.as_slice.ensures) c.in_ok-candidates.ensures.candidates;
-  all = subst (λ s. AreTouches c.args.kinds.now s c.touches-all.result) c.in_ok-first.ensures.state c.touches-all.ensures.touches;
-  state = c.in_ok-first.ensures.state;
-  numbered = c.in_ok-first.ensures.numbered;
-  trails = c.new-trails.ensures (g.B.RowBound.trails_of c.args.bound.now) c.args.kinds.now;
-}
+pub returns-clause-fewest : goal.returns-clause-fewest
+returns-clause-fewest g c = straight_fewest (g.B.RowBound.value c.args.bound.now) c.args.pins.now c.args.kinds.now c.args.gaps c.in_ok-fewest.fewest c.show_limits.ensures c.in_ok-fewest.ensures.fewest
 
 pub returns-clause-take : goal.returns-clause-take
-returns-clause-take g c = take_tracks (g.B.RowBound.value c.args.bound.now) c.args.pins.now c.args.kinds.now c.args.gaps c.in_ok-fewest.fewest c.show_limits.ensures (λ row s valid. g.met.B.RowBound.holds c.args.bound.now row s c.args.kinds.now c.show_limits.ensures valid) c.in_ok-fewest.ensures.fewest
+returns-clause-take g c =
+    let fewest : IsFewest (g.B.RowBound.value c.args.bound.now) c.args.pins.now c.args.kinds.now c.args.gaps c.in_ok-fewest.fewest = returns-clause-fewest g c in
+    take_tracks (g.B.RowBound.value c.args.bound.now) c.args.pins.now c.args.kinds.now c.args.gaps c.in_ok-fewest.fewest c.show_limits.ensures (λ row s valid. g.met.B.RowBound.holds c.args.bound.now row s c.args.kinds.now c.show_limits.ensures valid) fewest
 
 pub returns-clause-legal : goal.returns-clause-legal
-returns-clause-legal g c = legal_tracks (g.B.RowBound.value c.args.bound.now) c.args.pins.now c.args.kinds.now c.args.gaps c.in_ok-fewest.fewest c.show_limits.ensures (λ row s valid. g.met.B.RowBound.holds c.args.bound.now row s c.args.kinds.now c.show_limits.ensures valid) c.in_ok-fewest.ensures.fewest
+returns-clause-legal g c =
+    let fewest : IsFewest (g.B.RowBound.value c.args.bound.now) c.args.pins.now c.args.kinds.now c.args.gaps c.in_ok-fewest.fewest = returns-clause-fewest g c in
+    legal_tracks (g.B.RowBound.value c.args.bound.now) c.args.pins.now c.args.kinds.now c.args.gaps c.in_ok-fewest.fewest c.show_limits.ensures (λ row s valid. g.met.B.RowBound.holds c.args.bound.now row s c.args.kinds.now c.show_limits.ensures valid) fewest

@@ -19,15 +19,15 @@ visit-requires g c = record {
   fresh = start_fresh c.args.progress.now.lemmas c.args.first.now.state c.args.task.now.gaps c.in_ok-ways.ways c.requires.lemmas c.in_ok-ways.ensures;
   gaps = omega arith;
   trails = c.requires.trails;
-  kept = start_kept (g.B.RowBound.value c.args.task.now.bound.now) c.args.task.now.pins.now c.args.task.now.limit c.args.task.now.kinds.now c.args.task.now.gaps c.args.task.now.budget c.args.progress.now c.requires.lemmas c.requires.noted;
+  kept = start_kept g.R.TrackRule.fits (g.B.RowBound.value c.args.task.now.bound.now) c.args.task.now.pins.now c.args.task.now.limit c.args.task.now.kinds.now c.args.task.now.gaps c.args.task.now.budget c.args.progress.now c.requires.lemmas c.requires.noted;
 }
 
 pub returns-in-Some-clause-found : goal.returns-in-Some-clause-found
 returns-in-Some-clause-found g c =
-    let first : IsFirstRouted c.args.task.now.pins.now c.args.task.now.limit c.args.task.now.kinds.now c.args.first.now.state c.in_ok-ways.ways c.args.task.now.gaps (reverse c.in-Some.steps) = rw c.in-Some.is at c.in-Ok.ensures.first in
-    first_row c.args.task.now.pins.now c.args.task.now.limit c.args.task.now.kinds.now c.args.first.now.state c.args.task.now.gaps c.in_ok-ways.ways (reverse c.in-Some.steps) c.in_ok-row.row c.show_limits.ensures c.requires.state c.in_ok-ways.ensures (c.in_ok-row.ensures ∙ ap (λ steps. map (column_of c.args.task.now.kinds.now) (reverse steps)) c.as_slice.ensures) first
+    let first : IsFirstRouted g.R.TrackRule.fits c.args.task.now.pins.now c.args.task.now.limit c.args.task.now.kinds.now c.args.first.now.state c.in_ok-ways.ways c.args.task.now.gaps (reverse c.in-Some.steps) = rw c.in-Some.is at c.in-Ok.ensures.first in
+    first_row g.met.R.TrackRule.is_rule c.args.task.now.pins.now c.args.task.now.limit c.args.task.now.kinds.now c.args.first.now.state c.args.task.now.gaps c.in_ok-ways.ways (reverse c.in-Some.steps) c.in_ok-row.row c.show_limits.ensures c.requires.state c.in_ok-ways.ensures (c.in_ok-row.ensures ∙ ap (λ steps. map (column_of c.args.task.now.kinds.now) (reverse steps)) c.as_slice.ensures) first
 
 pub returns-clause-none : goal.returns-clause-none
 returns-clause-none g c =
     let covered : AreCovered c.visit.new.progress.lemmas c.args.first.now.state c.args.task.now.gaps c.in_ok-ways.ways = rw c.in_default.is at c.in-Ok.ensures.none in
-    certificate (g.B.RowBound.value c.args.task.now.bound.now) c.args.task.now.pins.now c.args.task.now.limit c.args.task.now.kinds.now c.args.first.now.state c.args.task.now.gaps c.in_ok-ways.ways c.visit.new.progress.lemmas c.requires.state c.in_ok-ways.ensures c.in-Ok.ensures.grown.kept.kept.justified covered
+    certificate g.R.TrackRule.fits (g.B.RowBound.value c.args.task.now.bound.now) c.args.task.now.pins.now c.args.task.now.limit c.args.task.now.kinds.now c.args.first.now.state c.args.task.now.gaps c.in_ok-ways.ways c.visit.new.progress.lemmas c.requires.state c.in_ok-ways.ensures c.in-Ok.ensures.grown.kept.kept.justified covered
