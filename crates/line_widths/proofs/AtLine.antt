@@ -167,10 +167,16 @@ module _ (p : Placement) (pins : Pins) (track : NetNo → ℕ) (trunks : List Tr
   -- ---- the contacts at the line
 
   side_there : (row : Row) (net : NetNo) → is_net (side row line) net ≡ true → at_line lines k (λ q. is_net (side row q) net) ≡ true
-  side_there row net e = subst (λ ls. at_line ls k (λ q. is_net (side row q) net) ≡ true) (sym s.is) (subst (λ m. at_line (front ++ line ∷ rest) m (λ q. is_net (side row q) net) ≡ true) (let z : length front + 0 ≡ k = omega (arith, s.count) in z) (sym (at_behind front (line ∷ rest) 0 (λ q. is_net (side row q) net)) ∙ e))
+  side_there row net e = subst (λ ls. at_line ls k (λ q. is_net (side row q) net) ≡ true) (sym s.is)
+      (subst (λ m. at_line (front ++ line ∷ rest) m (λ q. is_net (side row q) net) ≡ true)
+      (let z : length front + 0 ≡ k = omega (arith, s.count) in z)
+      (sym (at_behind front (line ∷ rest) 0 (λ q. is_net (side row q) net)) ∙ e))
 
   side_from : (row : Row) (net : NetNo) → at_line lines k (λ q. is_net (side row q) net) ≡ true → is_net (side row line) net ≡ true
-  side_from row net e = at_behind front (line ∷ rest) 0 (λ q. is_net (side row q) net) ∙ subst (λ m. at_line (front ++ line ∷ rest) m (λ q. is_net (side row q) net) ≡ true) (let z : k ≡ length front + 0 = omega (arith, s.count) in z) (subst (λ ls. at_line ls k (λ q. is_net (side row q) net) ≡ true) s.is e)
+  side_from row net e = at_behind front (line ∷ rest) 0 (λ q. is_net (side row q) net) ∙ subst
+      (λ m. at_line (front ++ line ∷ rest) m (λ q. is_net (side row q) net) ≡ true)
+      (let z : k ≡ length front + 0 = omega (arith, s.count) in z)
+      (subst (λ ls. at_line ls k (λ q. is_net (side row q) net) ≡ true) s.is e)
 
   in_row : (row : Row) (net : NetNo) → side row line ≡ Some net → (is_rail pins net || held net) ≡ true → HasContact p pins k
   in_row row net e c = record { node = record { row = row; line = k; net = net }; there = there; at = refl; contacted = by (or_cases (is_rail pins net) (held net) c) }

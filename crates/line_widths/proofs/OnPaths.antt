@@ -65,7 +65,10 @@ on_path pins k s track [] nets leads fit = refl
 on_path pins k s track (step ∷ steps) nets leads fit =
     ap (λ ls. borders_of pins track (is_behind k s) ls (λ net. false)) (parted k s step (map (column_of k) steps))
     ∙ borders_append pins track (is_behind k s) (lines_to s (column_of k step)) (lines_behind (state_after k s step).p_end (state_after k s step).n_end (map (column_of k) steps)) (λ net. false)
-    ∙ ap (λ (t : NetNo → Bool). borders_of pins track (is_behind k s) (lines_to s (column_of k step)) t ++ borders_of pins track (with_lines (is_behind k s) (lines_to s (column_of k step))) (lines_behind (state_after k s step).p_end (state_after k s step).n_end (map (column_of k) steps)) (λ net. false)) (ahead_next k s step (map (column_of k) steps) after)
+    ∙ ap (λ (t : NetNo → Bool). borders_of pins track (is_behind k s) (lines_to s (column_of k step)) t ++ borders_of
+    pins track (with_lines (is_behind k s) (lines_to s (column_of k step)))
+    (lines_behind (state_after k s step).p_end (state_after k s step).n_end (map (column_of k) steps))
+    (λ net. false)) (ahead_next k s step (map (column_of k) steps) after)
     ∙ ap (λ (t : NetNo → Bool). borders_to pins k s track step ++ borders_of pins track t (lines_behind (state_after k s step).p_end (state_after k s step).n_end (map (column_of k) steps)) (λ net. false)) (behind_next k s step (map (column_of k) steps) whole after fit)
     ∙ ap (λ bs. borders_to pins k s track step ++ bs) (on_path pins k (state_after k s step) track steps nets leads.1 (ends_after k s step (map (column_of k) steps) whole after fit))
   where

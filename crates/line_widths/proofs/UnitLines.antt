@@ -63,7 +63,10 @@ row_lines before (c ∷ cs) all = go (row_lines (Some c) cs (All-tail IsColumn c
     shaped rest true = (refl, record { p = refl; n = refl; gate = refl }, (refl, middle, rest))
     shaped rest false = (refl, middle, rest)
 
-    go : AreLines (units_behind (Some c) cs) (lines_behind (right_end c.p) (right_end c.n) cs) → (b : Bool) → is_gap_behind (open_end before P) (open_end before N) c ≡ b → AreLines (gap_between before c ++ ColumnUnit ∷ units_behind (Some c) cs) (lines_behind (open_end before P) (open_end before N) (c ∷ cs))
+    go : AreLines (units_behind (Some c) cs) (lines_behind (right_end c.p) (right_end c.n) cs) → (b : Bool) →
+        is_gap_behind (open_end before P) (open_end before N) c ≡ b →
+        AreLines (gap_between before c ++ ColumnUnit ∷ units_behind (Some c) cs)
+        (lines_behind (open_end before P) (open_end before N) (c ∷ cs))
     go rest b e =
         subst (λ us. AreLines (us ++ ColumnUnit ∷ units_behind (Some c) cs) (lines_behind (open_end before P) (open_end before N) (c ∷ cs)))
         (sym (gap_units before c b (gap_count before c b e)))

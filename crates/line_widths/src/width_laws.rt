@@ -49,8 +49,8 @@ pub fn too_wide()
         (last like : Option Border) (gaps fewer width less : ℕ)
         → fewer ≤ gaps → less ≤ width → AreSameAt pins k s track other → CountAlike last like
         → IsTooWide pins limit k s track last gaps width → IsTooWide pins limit k s other like fewer less }
-    // where the first state is, the last line of each arrangement with at most so many gaps, in each legal routing below
-    // the limit, stands further on than 8 and the width
+    // where the first state is too wide, so is each arrangement with at most so many gaps, in each legal routing on as
+    // many tracks as the limit or fewer: its last line stands further on than 8 and the width
     ensures wider { (pins : Pins) (f : Fingers) (k : Kinds) (limit : ℕ) (track : NetNo → ℕ) (gaps width : ℕ)
         → AreKinds f k → GatesAreNets k → IsTooWide pins limit k (start_of k) track None gaps width
         → (row : List Column) (r : Routing) (d : Distances) (xs : List ℕ)
