@@ -1,0 +1,5 @@
+-- What contracts of public calls cite, and what these definitions use.
+pub mod Fits
+pub mod Lists
+pub mod Reading
+pub mod Text
