@@ -1,0 +1,4 @@
+pub mod Balances
+pub mod Classes
+pub mod Lemmas
+pub mod Places
