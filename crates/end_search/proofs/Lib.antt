@@ -1,0 +1,5 @@
+mod Choices
+mod Grown
+mod Kept
+mod Limits
+mod Spending
