@@ -153,14 +153,8 @@ pub record IsChoice (level : Level) (s : List Place) (choices : List (List Edge)
   pub state : after ≡ state_after level.now level.next s choice
   pub count : ends ≡ ends_after level.now level.next s choice
 
-pub choice_at : (level : Level) (s : List Place) (choices : List (List Edge)) (i : ℕ) (after : List Place) (ends : ℕ) (item choice : List Edge) (nodes next : List Node) → i < length choices → item ≡ get_or choices i item → choice ≡ item → nodes ≡ level.now → next ≡ level.next → after ≡ state_after nodes next s choice → ends ≡ ends_after nodes next s choice → IsChoice level s choices i after ends
-choice_at level s choices i after ends item choice nodes next within is same now later state count = record {
-  choice = item;
-  within = within;
-  is = is;
-  state = state ∙ ap (λ (c : List Edge). state_after nodes next s c) same ∙ ap (λ (ns : List Node). state_after ns next s item) now ∙ ap (λ (ns : List Node). state_after level.now ns s item) later;
-  count = count ∙ ap (λ (c : List Edge). ends_after nodes next s c) same ∙ ap (λ (ns : List Node). ends_after ns next s item) now ∙ ap (λ (ns : List Node). ends_after level.now ns s item) later;
-}
+pub choice_at : {level : Level} {s after : List Place} {choices : List (List Edge)} {i ends : ℕ} {item : List Edge} → i < length choices → item ≡ get_or choices i item → after ≡ state_after level.now level.next s item → ends ≡ ends_after level.now level.next s item → IsChoice level s choices i after ends
+choice_at {item = item} within is state count = record { choice = item; within = within; is = is; state = state; count = count }
 
 -- the state behind it
 pub state_behind : (levels : List Level) (level : Level) (done : ℕ) (s after : List Place) (ends : ℕ) (choices : List (List Edge)) (i : ℕ) → AreChained levels → slice_get levels done ≡ Some level → IsChoice level s choices i after ends → IsStateOf (nodes_of (slice_get levels done)) s → IsStateOf (nodes_of (slice_get levels (done + 1))) after

@@ -1,6 +1,7 @@
 ghost use Rattle.std.specs.Prelude.{◌≡◌, ◌≤◌, ◌+◌, true, false, IfOk, IfErr, IsTrue, drop};
 ghost use Rattle.std.specs.Prelude.{◌<◌, length, slice_get};
 ghost use Rattle.trail_state.specs.Levels.{Ends};
+ghost use Rattle.trail_state.specs.Settling.{ends_after, state_after};
 ghost use Rattle.trail_check.specs.Closing.{odd_ends};
 ghost use Rattle.trail_check.specs.Justified.{is_known};
 ghost use Rattle.trail_check.specs.Listed.{nodes_of};
@@ -11,16 +12,33 @@ ghost use Rattle.trail_search.specs.Units.{path_units};
 
 use crate::kept::Kept;
 use crate::units::{take, units_at};
-use cell_num::{Halt, List};
+use cell_num::{Halt, List, NoMemory};
 use std::alloc::Global;
 use trail_check::{ClosingNodes, closing_nodes, odd_ends};
-use trail_state::{Choice, Level, TrailState, after};
+use trail_state::{Choice, Level, Settled, TrailState, after};
 
 // Whether more ends than are allowed are certain at the nodes that close.
 fn exceeds(closing: &ClosingNodes, choice: &Choice, allowed: u32) -> bool
     ensures { IsTrue result → allowed < odd_ends closing.now choice.now }
 {
     (allowed as usize) < odd_ends(closing, choice)
+}
+
+// The state after a choice of the level's gate, and the ends that it leaves behind.
+fn settle(
+    alloc: Global,
+    level: &Level,
+    state: &TrailState,
+    choice: &Choice,
+) -> Result<Settled, NoMemory>
+    requires { length level.now.now ≤ 65536 }
+    ensures state { IfOk result (λ settled. settled.state ≡
+        state_after level.entry.now.now level.entry.now.next state.now choice.now) }
+    ensures ends { IfOk result (λ settled. settled.ends ≡
+        ends_after level.entry.now.now level.entry.now.next state.now choice.now) }
+{
+    let (nodes, next) = (level.now.as_slice(), level.next.as_slice());
+    after(alloc, nodes, next, state, choice.as_slice())
 }
 
 /// Whether some choices of the gates left have at most `allowed` more ends; else a kept lemma says that none do.
@@ -71,13 +89,7 @@ pub(crate) fn visit(
         if exceeds(&closing, choice, allowed) {
             continue;
         }
-        let settled = after(
-            alloc,
-            level.now.as_slice(),
-            level.next.as_slice(),
-            state,
-            choice.as_slice(),
-        )?;
+        let settled = settle(alloc, level, state, choice)?;
         if allowed < settled.ends {
             continue;
         }

@@ -1,6 +1,5 @@
-use Rattle.std.proofs.Common.{rules, ◌+◌, ◌-◌, ◌<◌, ◌≤◌, List, ap, arith, drop, length, option_copied, slice_get, subst, sym, take, ◌∙◌}
+use Rattle.std.proofs.Common.{rules, ◌+◌, ◌-◌, ◌<◌, ◌≤◌, ap, arith, drop, length, option_copied, slice_get, sym, take, ◌∙◌}
 use Rattle.std.proofs.lemmas.Option.{slice_get_within}
-use Rattle.trail_state.specs.declared.edge.Node.{Node}
 use Rattle.trail_check.specs.Listed.{nodes_of}
 use Rattle.trail_search.specs.Search.{IsStateOf}
 use Rattle.trail_search.specs.Units.{path_units, units_at}
@@ -15,13 +14,7 @@ use Rattle.trail_search.proofs.visit.+visit.Goals as goal
 
 pub loop-choice-preserved-then-allowed-settled : goal.loop-choice-preserved-then-allowed-settled
 loop-choice-preserved-then-allowed-settled t c =
-    let choice : IsChoice c.in-Some.level.now c.args.state.now c.as_slice-choice-items.result.now
-    c.loop-choice.choice-index c.in_ok-settled.settled.state c.in_ok-settled.settled.ends = choice_at
-    c.in-Some.level.now c.args.state.now c.as_slice-choice-items.result.now c.loop-choice.choice-index
-    c.in_ok-settled.settled.state c.in_ok-settled.settled.ends c.choice-item.result
-    c.as_slice-in-loop-choice-2.result.now c.as_slice.result.now c.as_slice-in-loop-choice.result.now
-    c.loop-choice-test.true c.choice-item.is c.as_slice-in-loop-choice-2.ensures c.as_slice.ensures
-    c.as_slice-in-loop-choice.ensures c.in_ok-settled.ensures.state c.in_ok-settled.ensures.ends in (
+    let choice : IsChoice c.in-Some.level.now c.args.state.now c.as_slice-choice-items.result.now c.loop-choice.choice-index c.in_ok-settled.settled.state c.in_ok-settled.settled.ends = choice_at c.loop-choice-test.true c.choice-item.is c.in_ok-settled.ensures.state c.in_ok-settled.ensures.ends in (
       c.loop-choice.invariant.0,
       c.loop-choice.invariant.1,
       fails_dear c.loop-choice.kept.lemmas c.in-Some.level.now
@@ -48,13 +41,7 @@ loop-choice-preserved-then-exceeds t c = (
 
 pub loop-choice-preserved-then-knows : goal.loop-choice-preserved-then-knows
 loop-choice-preserved-then-knows t c =
-    let choice : IsChoice c.in-Some.level.now c.args.state.now c.as_slice-choice-items.result.now
-    c.loop-choice.choice-index c.in_ok-settled.settled.state c.in_ok-settled.settled.ends = choice_at
-    c.in-Some.level.now c.args.state.now c.as_slice-choice-items.result.now c.loop-choice.choice-index
-    c.in_ok-settled.settled.state c.in_ok-settled.settled.ends c.choice-item.result
-    c.as_slice-in-loop-choice-2.result.now c.as_slice.result.now c.as_slice-in-loop-choice.result.now
-    c.loop-choice-test.true c.choice-item.is c.as_slice-in-loop-choice-2.ensures c.as_slice.ensures
-    c.as_slice-in-loop-choice.ensures c.in_ok-settled.ensures.state c.in_ok-settled.ensures.ends in (
+    let choice : IsChoice c.in-Some.level.now c.args.state.now c.as_slice-choice-items.result.now c.loop-choice.choice-index c.in_ok-settled.settled.state c.in_ok-settled.settled.ends = choice_at c.loop-choice-test.true c.choice-item.is c.in_ok-settled.ensures.state c.in_ok-settled.ensures.ends in (
       c.loop-choice.invariant.0,
       c.loop-choice.invariant.1,
       fails_known c.loop-choice.kept.lemmas c.in-Some.level.now
@@ -68,13 +55,7 @@ loop-choice-preserved-then-knows t c =
 
 pub loop-choice-preserved : goal.loop-choice-preserved
 loop-choice-preserved t c =
-    let choice : IsChoice c.in-Some.level.now c.args.state.now c.as_slice-choice-items.result.now
-    c.loop-choice.choice-index c.in_ok-settled.settled.state c.in_ok-settled.settled.ends = choice_at
-    c.in-Some.level.now c.args.state.now c.as_slice-choice-items.result.now c.loop-choice.choice-index
-    c.in_ok-settled.settled.state c.in_ok-settled.settled.ends c.choice-item.result
-    c.as_slice-in-loop-choice-2.result.now c.as_slice.result.now c.as_slice-in-loop-choice.result.now
-    c.loop-choice-test.true c.choice-item.is c.as_slice-in-loop-choice-2.ensures c.as_slice.ensures
-    c.as_slice-in-loop-choice.ensures c.in_ok-settled.ensures.state c.in_ok-settled.ensures.ends in (
+    let choice : IsChoice c.in-Some.level.now c.args.state.now c.as_slice-choice-items.result.now c.loop-choice.choice-index c.in_ok-settled.settled.state c.in_ok-settled.settled.ends = choice_at c.loop-choice-test.true c.choice-item.is c.in_ok-settled.ensures.state c.in_ok-settled.ensures.ends in (
       further_then c.args.levels.now c.args.kept.now c.loop-choice.kept c.visit.new.kept c.loop-choice.invariant.0
           c.in-Ok.ensures.further,
       omega (arith, c.in-Ok.ensures.left, c.loop-choice.invariant.1),
@@ -101,20 +82,13 @@ keep-requires-clause-justified t c =
 
 pub visit-requires : goal.visit-requires
 visit-requires t c =
-    let choice : IsChoice c.in-Some.level.now c.args.state.now c.as_slice-choice-items.result.now
-    c.loop-choice.choice-index c.in_ok-settled.settled.state c.in_ok-settled.settled.ends = choice_at
-    c.in-Some.level.now c.args.state.now c.as_slice-choice-items.result.now c.loop-choice.choice-index
-    c.in_ok-settled.settled.state c.in_ok-settled.settled.ends c.choice-item.result
-    c.as_slice-in-loop-choice-2.result.now c.as_slice.result.now c.as_slice-in-loop-choice.result.now
-    c.loop-choice-test.true c.choice-item.is c.as_slice-in-loop-choice-2.ensures c.as_slice.ensures
-    c.as_slice-in-loop-choice.ensures c.in_ok-settled.ensures.state c.in_ok-settled.ensures.ends in
+    let choice : IsChoice c.in-Some.level.now c.args.state.now c.as_slice-choice-items.result.now c.loop-choice.choice-index c.in_ok-settled.settled.state c.in_ok-settled.settled.ends = choice_at c.loop-choice-test.true c.choice-item.is c.in_ok-settled.ensures.state c.in_ok-settled.ensures.ends in
     let within : c.args.done < length c.args.levels.now = slice_get_within c.args.levels.now c.args.done c.in-Some.level.now (sym c.in-Some.ensures) in
     let state : IsStateOf (nodes_of (slice_get c.args.levels.now (c.args.done + 1))) c.in_ok-settled.settled.state = state_behind c.args.levels.now c.in-Some.level.now c.args.done c.args.state.now c.in_ok-settled.settled.state c.in_ok-settled.settled.ends c.as_slice-choice-items.result.now c.loop-choice.choice-index c.requires.chained (sym c.in-Some.ensures) choice c.requires.state in
     (omega (arith, within), (c.requires.small, (c.requires.few, (omega (arith, c.requires.allowed), (c.requires.chained, (state, (c.loop-choice.invariant.0.kept, search rules)))))))
 
-pub after-requires : goal.after-requires
-after-requires t c =
-    subst (λ (nodes : List Node). length nodes ≤ 65536) (sym c.as_slice.ensures) (all_at (λ (level : Level). length level.now ≤ 65536) c.args.levels.now c.args.done c.in-Some.level.now c.requires.small (sym c.in-Some.ensures))
+pub settle-requires : goal.settle-requires
+settle-requires t c = all_at (λ (level : Level). length level.now ≤ 65536) c.args.levels.now c.args.done c.in-Some.level.now c.requires.small (sym c.in-Some.ensures)
 
 pub overflow_add-done : goal.overflow_add-done
 overflow_add-done t c =
@@ -144,13 +118,7 @@ returns-in-Err-clause-spent_path t c = λ spent.
 
 pub returns-then-found-clause-found : goal.returns-then-found-clause-found
 returns-then-found-clause-found t c =
-    let choice : IsChoice c.in-Some.level.now c.args.state.now c.as_slice-choice-items.result.now
-    c.loop-choice.choice-index c.in_ok-settled.settled.state c.in_ok-settled.settled.ends = choice_at
-    c.in-Some.level.now c.args.state.now c.as_slice-choice-items.result.now c.loop-choice.choice-index
-    c.in_ok-settled.settled.state c.in_ok-settled.settled.ends c.choice-item.result
-    c.as_slice-in-loop-choice-2.result.now c.as_slice.result.now c.as_slice-in-loop-choice.result.now
-    c.loop-choice-test.true c.choice-item.is c.as_slice-in-loop-choice-2.ensures c.as_slice.ensures
-    c.as_slice-in-loop-choice.ensures c.in_ok-settled.ensures.state c.in_ok-settled.ensures.ends in
+    let choice : IsChoice c.in-Some.level.now c.args.state.now c.as_slice-choice-items.result.now c.loop-choice.choice-index c.in_ok-settled.settled.state c.in_ok-settled.settled.ends = choice_at c.loop-choice-test.true c.choice-item.is c.in_ok-settled.ensures.state c.in_ok-settled.ensures.ends in
     λ _. choice_open c.args.levels.now c.in-Some.level.now c.args.done c.args.state.now c.in_ok-settled.settled.state c.args.allowed c.in_ok-settled.settled.ends c.as_slice-choice-items.result.now c.loop-choice.choice-index (sym c.in-Some.ensures) c.as_slice-choice-items.ensures choice c.if-allowed-settled.false (c.in-Ok.ensures.found c.if-found.true)
 
 pub returns-then-found-clause-path : goal.returns-then-found-clause-path
@@ -182,13 +150,7 @@ keep-requires-clause-new t c = unknown_still c.args.done (c.args.allowed + 1) c.
 
 pub returns-then-found-clause-within : goal.returns-then-found-clause-within
 returns-then-found-clause-within t c =
-    let choice : IsChoice c.in-Some.level.now c.args.state.now c.as_slice-choice-items.result.now
-    c.loop-choice.choice-index c.in_ok-settled.settled.state c.in_ok-settled.settled.ends = choice_at
-    c.in-Some.level.now c.args.state.now c.as_slice-choice-items.result.now c.loop-choice.choice-index
-    c.in_ok-settled.settled.state c.in_ok-settled.settled.ends c.choice-item.result
-    c.as_slice-in-loop-choice-2.result.now c.as_slice.result.now c.as_slice-in-loop-choice.result.now
-    c.loop-choice-test.true c.choice-item.is c.as_slice-in-loop-choice-2.ensures c.as_slice.ensures
-    c.as_slice-in-loop-choice.ensures c.in_ok-settled.ensures.state c.in_ok-settled.ensures.ends in
+    let choice : IsChoice c.in-Some.level.now c.args.state.now c.as_slice-choice-items.result.now c.loop-choice.choice-index c.in_ok-settled.settled.state c.in_ok-settled.settled.ends = choice_at c.loop-choice-test.true c.choice-item.is c.in_ok-settled.ensures.state c.in_ok-settled.ensures.ends in
     within_then c.args.levels.now c.in-Some.level.now c.args.done c.args.state.now c.in_ok-settled.settled.state
     c.args.allowed c.in_ok-settled.settled.ends c.as_slice-choice-items.result.now c.loop-choice.choice-index
     c.args.kept.now c.loop-choice.kept c.visit.new.kept (sym c.in-Some.ensures) c.as_slice-choice-items.ensures
@@ -196,13 +158,7 @@ returns-then-found-clause-within t c =
 
 pub returns-in-Err-clause-spent_within : goal.returns-in-Err-clause-spent_within
 returns-in-Err-clause-spent_within t c =
-    let choice : IsChoice c.in-Some.level.now c.args.state.now c.as_slice-choice-items.result.now
-    c.loop-choice.choice-index c.in_ok-settled.settled.state c.in_ok-settled.settled.ends = choice_at
-    c.in-Some.level.now c.args.state.now c.as_slice-choice-items.result.now c.loop-choice.choice-index
-    c.in_ok-settled.settled.state c.in_ok-settled.settled.ends c.choice-item.result
-    c.as_slice-in-loop-choice-2.result.now c.as_slice.result.now c.as_slice-in-loop-choice.result.now
-    c.loop-choice-test.true c.choice-item.is c.as_slice-in-loop-choice-2.ensures c.as_slice.ensures
-    c.as_slice-in-loop-choice.ensures c.in_ok-settled.ensures.state c.in_ok-settled.ensures.ends in
+    let choice : IsChoice c.in-Some.level.now c.args.state.now c.as_slice-choice-items.result.now c.loop-choice.choice-index c.in_ok-settled.settled.state c.in_ok-settled.settled.ends = choice_at c.loop-choice-test.true c.choice-item.is c.in_ok-settled.ensures.state c.in_ok-settled.ensures.ends in
     λ spent. within_then c.args.levels.now c.in-Some.level.now c.args.done c.args.state.now
     c.in_ok-settled.settled.state c.args.allowed c.in_ok-settled.settled.ends c.as_slice-choice-items.result.now
     c.loop-choice.choice-index c.args.kept.now c.loop-choice.kept c.visit.new.kept (sym c.in-Some.ensures)
