@@ -1,12 +1,13 @@
 -- What is found in a list, and in one whose items ascend.
-use Rattle.std.specs.Prelude.{ℕ, ◌≡◌, ◌<◌, ◌≤◌, Bool, true, false, List, [], ◌∷◌, Some, None, AllPairs, Contains, find}
+use Rattle.std.specs.Prelude.{ℕ, ◌≡◌, ◌<◌, ◌≤◌, ◌&&◌, Bool, true, false, not, List, [], ◌∷◌, Some, None, AllPairs, Contains, find, length}
+use Rattle.std.specs.List.{filter}
 use Rattle.std.proofs.Common.{refl, sym, ap, subst, arith, ◌∙◌, inl, inr}
-use Rattle.std.proofs.lemmas.Bool.{both_ways, cases_Bool}
+use Rattle.std.proofs.lemmas.Bool.{and_right, both_ways, cases_Bool}
 use Rattle.std.proofs.lemmas.List.Elements.{All-contains}
 use Rattle.std.proofs.lemmas.Option.{none-some}
 use Rattle.cell_num.proofs.Lists.{contains_cons, contains_here, contains_none, contains_there, some_same}
 use Rattle.cell_num.proofs.Pairs.{pairs_head, pairs_tail}
-use Rattle.trail_state.proofs.Members.{Passes}
+use Rattle.trail_state.proofs.Members.{Passes, filter_off, filter_on}
 
 find_on : {X : Type 0} (p : X → Bool) (y : X) (ys : List X) → p y ≡ true → find p (y ∷ ys) ≡ Some y
 find_on p y ys e = rw e refl
@@ -29,6 +30,26 @@ found_is p (y ∷ ys) x e =
 pub find_none : {X : Type 0} (p : X → Bool) (xs : List X) → ((x : X) → Contains xs x → p x ≡ false) → find p xs ≡ None
 find_none p [] h = refl
 find_none p (y ∷ ys) h = find_off p y ys (h y (contains_here y ys)) ∙ find_none p ys (λ x c. h x (contains_there y ys x c))
+
+-- where nothing passes one of two tests, nothing passes both
+pub none_both : {X : Type 0} (p q : X → Bool) (xs : List X) → find q xs ≡ None → filter (λ x. p x && q x) xs ≡ []
+none_both p q [] none = refl
+none_both p q (x ∷ xs) none =
+    elim (cases_Bool (q x)) [
+      | inl on ↦ absurd (none-some x (sym none ∙ find_on q x xs on))
+      | inr off ↦ filter_off (λ y. p y && q y) x xs (and_right (p x) (q x) off) ∙ none_both p q xs (sym (find_off q x xs off) ∙ none)
+    ]
+
+-- where nothing passes, all is left
+pub all_left : {X : Type 0} (p : X → Bool) (xs : List X) → filter p xs ≡ [] → filter (λ x. not (p x)) xs ≡ xs
+all_left p [] none = refl
+all_left {X} p (x ∷ xs) none =
+    elim (cases_Bool (p x)) [
+      | inl on ↦
+          let many : length (x ∷ filter p xs) ≡ 0 = ap (λ (ys : List X). length ys) (sym (filter_on p x xs on) ∙ none) in
+          absurd (omega (arith, many))
+      | inr off ↦ filter_on (λ y. not (p y)) x xs (ap not off) ∙ ap (λ (ys : List X). x ∷ ys) (all_left p xs (sym (filter_off p x xs off) ∙ none))
+    ]
 
 -- the first that passes is the least
 pub first_least : {X : Type 0} (f : X → ℕ) (p : X → Bool) (xs : List X) (x it : X) → AllPairs (λ (a b : X). f a < f b) xs → Contains xs x → p x ≡ true → find p xs ≡ Some it → f it ≤ f x

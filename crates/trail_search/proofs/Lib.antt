@@ -4,6 +4,7 @@ pub mod Listed
 pub mod Spent
 pub mod Tried
 pub mod Ends
+pub mod Filled
 pub mod Finds
 pub mod Grown
 pub mod Lines

@@ -1,5 +1,5 @@
 -- An order that permutes the gates of some fingers is one of theirs.
-use Rattle.std.specs.Prelude.{ℕ, ◌≡◌, ◌≢◌, ◌+◌, ◌<◌, ◌≤◌, ◌==◌, Bool, true, false, not, cond, ltb, max, List, [], ◌∷◌, All, AllPairs, Contains, IsPermutation, count_by, length, map, remove, ◌++◌}
+use Rattle.std.specs.Prelude.{ℕ, ◌≡◌, ◌≢◌, ◌<◌, ◌≤◌, ◌==◌, Bool, true, false, not, cond, ltb, max, List, [], ◌∷◌, All, AllPairs, Contains, IsPermutation, count_by, length, map, remove, ◌++◌}
 use Rattle.std.specs.List.{filter, list_any, range_with_len}
 use Rattle.std.proofs.Common.{refl, sym, ap, subst, arith, ◌∙◌, inl, inr, get_or, append-nil}
 use Rattle.std.proofs.lemmas.Bool.{and_from, cases_Bool, cases_eq, cases_lt, eqb-true, ne_eqb, or_cases, or_left, or_right}

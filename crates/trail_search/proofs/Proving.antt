@@ -26,9 +26,9 @@ use Rattle.trail_check.specs.Listed.{lemmas_listed}
 use Rattle.trail_check.proofs.Sound.{ends_true}
 use Rattle.trail_search.specs.declared.kept.Kept.{Kept}
 use Rattle.trail_search.specs.declared.proof.Proof.{Proof}
-use Rattle.trail_search.specs.Filling.{filled_gates, is_one_of, opened_gates, uneven_gates}
+use Rattle.trail_search.specs.Filling.{closed_gates, filled_gates, is_one_of, opened_gates, uneven_gates}
 use Rattle.trail_search.specs.Line.{AllNodes}
-use Rattle.trail_search.specs.Proof.{IsClosedWithMany, IsProof}
+use Rattle.trail_search.specs.Proof.{IsProof}
 use Rattle.trail_search.specs.Reached.{AreReached}
 use Rattle.trail_search.specs.Search.{AreKept, AreNew}
 use Rattle.trail_search.proofs.Opening.{none_unfilled, open_gates_are}
@@ -102,9 +102,6 @@ filled_are f order opened fill same others =
     others ∙ ap (λ (gs : List NetNo). filter (λ (g : NetNo). not (is_one_of gs g)) (uneven_gates f)) same
 
 -- the first gate with too many ways that is not left open
-pub closed_many : (f : Fingers) (order fill : List NetNo) (o : Option NetNo) (gate : NetNo) → IsOrder f order → fill ≡ filled_gates f order → o ≡ first_with_many f (closed_in f fill order) → o ≡ Some gate → IsClosedWithMany f gate
-closed_many f order fill o gate is filled first some = record {
-  order = order;
-  is = is;
-  first = ap (λ (gs : List NetNo). first_with_many f (closed_in f gs order)) (sym filled) ∙ sym first ∙ some;
-}
+pub closed_many : (f : Fingers) (order fill : List NetNo) (o : Option NetNo) (gate : NetNo) → fill ≡ filled_gates f order → o ≡ first_with_many f (closed_in f fill order) → o ≡ Some gate → first_with_many f (closed_gates f order) ≡ Some gate
+closed_many f order fill o gate filled first some =
+    ap (λ (gs : List NetNo). first_with_many f (closed_in f gs order)) (sym filled) ∙ sym first ∙ some

@@ -1,8 +1,9 @@
 -- The lemmas that functions name, by function.
+use Rattle.open_gates.proofs.Leveled.{are_levels, few_nodes}
 use Rattle.trail_search.proofs.Grown.{further_same, further_then}
 use Rattle.trail_search.proofs.OpenLevels.{open_short}
 use Rattle.trail_search.proofs.Proved.{gate_crowded, kept_least, levels_short, none_kept}
-use Rattle.trail_search.proofs.Proving.{is_proof}
+use Rattle.trail_search.proofs.Proving.{filled_are, is_proof}
 use Rattle.trail_search.proofs.Reached.{within_same}
 use Rattle.trail_search.proofs.Spent.{searched}
 use Rattle.trail_search.proofs.States.{state_first}
@@ -12,6 +13,12 @@ pub ruleset row_from_rules = (true_none, first_found, none_found, searched)
 
 pub ruleset prove_rules = (none_kept, is_proof, open_short)
 
-pub ruleset is_refuted_rules = (state_first, none_kept, kept_least, levels_short, gate_crowded)
+pub ruleset filled_rules = (are_levels, few_nodes)
+
+pub ruleset listing_rules = (filled_are)
+
+pub ruleset listed_rules = (levels_short, gate_crowded)
+
+pub ruleset is_refuted_rules = (state_first, none_kept, kept_least, levels_short)
 
 pub ruleset visit_rules = (further_same, further_then, within_same)

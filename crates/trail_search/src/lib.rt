@@ -11,6 +11,7 @@ mod gates;
 mod kept;
 mod limits;
 mod line;
+mod listing;
 mod order;
 mod proof;
 mod refute;

@@ -8,15 +8,15 @@ ghost use Rattle.trail_search.specs.Reached.{AreReached};
 ghost use Rattle.trail_search.specs.Search.{AreChained, AreKept, AreSmall, AreTied, IsFurther};
 ghost use Rattle.trail_search.specs.Units.{path_units};
 
-use crate::gates::{fill, first_crowded, levels, opened};
 use crate::kept::Kept;
+use crate::listing::listing;
 use crate::order::order;
 use crate::proof::{Proof, ProveStop};
 use crate::visit::visit;
 use cell_num::{Fingers, Halt, List, NoMemory};
 use std::alloc::Global;
 use trail_log::TrailCertificate;
-use trail_state::{Level, TrailState};
+use trail_state::{Level, LevelStop, TrailState};
 
 /// The greatest limit that is tried: a row of 32 columns has no more gaps than 31.
 pub(crate) const MOST_LIMIT: u32 = 30;
@@ -80,20 +80,18 @@ pub(crate) fn prove(alloc: Global, fingers: &Fingers, left: &mut u64) -> Result<
     ensures stopped { IfErr result (StopsProving fingers.now left.old left.new) }
 {
     let order = order(alloc, fingers)?;
-    let opened = opened(alloc, fingers, &order)?;
-    let fill = fill(alloc, fingers, &opened)?;
-    let crowded = first_crowded(alloc, fingers, &fill, &order)?;
-    if let Some(gate) = crowded {
-        return Err(ProveStop::Choices { gate });
-    }
-    let levels = levels(alloc, fingers, &fill, &order)?;
+    let listing = match listing(alloc, fingers, &order) {
+        Ok(listing) => listing,
+        Err(LevelStop::Long { gate }) => return Err(ProveStop::Choices { gate }),
+        Err(LevelStop::NoMemory) => return Err(ProveStop::NoMemory),
+    };
     let mut kept = Kept::new(alloc);
-    let whole = refute_limits(alloc, &levels, &mut kept, left)?;
+    let whole = refute_limits(alloc, &listing.levels, &mut kept, left)?;
     let proof = Proof {
         gaps: kept.gaps(),
-        opened,
+        opened: listing.opened,
         trails: TrailCertificate {
-            fill,
+            fill: listing.fill,
             order,
             lemmas: kept.lines,
             best: None,

@@ -1,21 +1,61 @@
-ghost use Rattle.std.specs.Prelude.{◌≡◌, ◌≤◌, ◌<◌, false, IfOk, IfErr, IsTrue, List as Sequence};
+ghost use Rattle.std.specs.Prelude.{◌≡◌, ◌≤◌, ◌<◌, ◌+◌, ℕ, false, None, All, IfOk, IfErr, IsTrue, List as Sequence};
 ghost use Rattle.cell_num.specs.Fingers.{AreFingers};
 ghost use Rattle.row_model.specs.declared.column.Column.{Column};
 ghost use Rattle.row_model.specs.Arrangement.{IsArrangement};
 ghost use Rattle.row_model.specs.Gaps.{gaps_of};
+ghost use Rattle.trail_state.specs.Levels.{AreLevels, IsOrder};
+ghost use Rattle.open_gates.specs.Leveled.{levels_of};
+ghost use Rattle.open_gates.specs.Listed.{HasFewNodes};
+ghost use Rattle.trail_check.specs.Gates.{first_with_many};
 ghost use Rattle.trail_search.specs.Proof.{AttemptsOnce, AttemptsStopped, EndsRefuting, HasMost};
+ghost use Rattle.trail_search.specs.Units.{listed_units};
 
 use crate::kept::Kept;
 use crate::limits::{MOST_LIMIT, most_ends};
+use crate::listing::filled_levels;
 use crate::order::order;
 use crate::proof::RefuteStop;
 use crate::units::{CROWDED_UNITS, listed_units, take};
 use crate::visit::visit;
-use cell_num::{Fingers, Halt};
-use open_gates::levels_of;
+use cell_num::{Fingers, Halt, List, NetNo};
 use std::alloc::Global;
-use trail_check::first_with_many;
-use trail_state::TrailState;
+use trail_state::{Level, LevelStop, TrailState};
+
+// The levels of the order, where no gate has too many ways and the units left are enough to list the choices of all.
+#[tactic(auto, using(crate::proofs::Rules::listed_rules))]
+fn listed(
+    alloc: Global,
+    fingers: &Fingers,
+    order: &[NetNo],
+    left: &mut u64,
+) -> Result<List<Level>, RefuteStop>
+    requires fingers { AreFingers fingers.now }
+    requires order { IsOrder fingers.now order.now }
+    ensures are { IfOk result (AreLevels fingers.now order.now) }
+    ensures is { IfOk result (λ levels. levels ≡ levels_of fingers.now order.now) }
+    ensures nodes { IfOk result (All HasFewNodes) }
+    ensures few_ways { IfOk result (λ _. first_with_many fingers.now order.now ≡ None) }
+    ensures taken { IfOk result (λ levels. left.new + listed_units None levels ≡ left.old) }
+    ensures left { left.new ≤ left.old }
+    ensures halted { IfErr result (EndsRefuting fingers.now left.new) }
+    ensures attempt { IfErr result (λ why. (limit : ℕ) → AttemptsStopped fingers.now limit left.old left.new why) }
+{
+    match filled_levels(alloc, fingers, order) {
+        Ok(levels) => {
+            if !take(left, listed_units(&levels)) {
+                return Err(RefuteStop::Spent);
+            }
+            Ok(levels)
+        }
+        Err(LevelStop::Long { gate }) => {
+            if !take(left, CROWDED_UNITS) {
+                return Err(RefuteStop::Spent);
+            }
+            Err(RefuteStop::Choices { gate })
+        }
+        Err(LevelStop::NoMemory) => Err(RefuteStop::NoMemory),
+    }
+}
 
 /// Whether it is proved that every arrangement of the fingers has more than `limit` gaps: a limit up to 30 is refuted
 /// where lemmas in the order that is tried can refute it. It takes at most `left` units, and leaves there how many are
@@ -40,17 +80,10 @@ pub(crate) fn is_refuted(
         return Ok(false);
     }
     let order = order(alloc, fingers)?;
-    let crowded = first_with_many(alloc, fingers, order.as_slice())?;
-    if let Some(gate) = crowded {
-        if !take(left, CROWDED_UNITS) {
-            return Err(RefuteStop::Spent);
-        }
-        return Err(RefuteStop::Choices { gate });
-    }
-    let levels = levels_of(alloc, fingers, order.as_slice())?;
-    if !take(left, listed_units(&levels)) {
-        return Err(RefuteStop::Spent);
-    }
+    let levels = match listed(alloc, fingers, order.as_slice(), left) {
+        Ok(levels) => levels,
+        Err(why) => return Err(why),
+    };
     let mut kept = Kept::new(alloc);
     match visit(
         alloc,
