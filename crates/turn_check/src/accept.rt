@@ -34,9 +34,9 @@ fn judge<B: GapBound>(
     ensures accepted { IfOk result (IsTurnAccepted (B.value bound.now) pins.now kinds.now name.now bytes.now) }
     ensures rejected { IfErr result (λ cause. cause ≢ because.NoMemory →
         RejectsTurn (B.value bound.now) pins.now kinds.now name.now bytes.now cause) }
-    ensures more { IfOk result (λ proved. (f : Fingers) (row : Sequence Column) (r : PieceRouting) → AreKinds f kinds.now
-        → IsArrangement row f → gaps_of row ≤ proved.gaps → ArePiecesLegal (placement_of row) pins.now r
-        → proved.tracks ≤ r.tracks) }
+    ensures more { IfOk result (λ proved. (f : Fingers) (row : Sequence Column) (r : PieceRouting)
+        → AreKinds f kinds.now → IsArrangement row f → gaps_of row ≤ proved.gaps
+        → ArePiecesLegal (placement_of row) pins.now r → proved.tracks ≤ r.tracks) }
 {
     let certificate = match read_tracks_by(alloc, Course::Turning, bytes, name, kinds) {
         Ok(certificate) => certificate,
@@ -70,9 +70,9 @@ pub fn check_turning<B: GapBound>(
     ensures none { IfErr result (λ cause. cause ≢ because.NoMemory → (proved : ProvedOf) →
         IsTurnAccepted (B.value bound.now) pins.now kinds.now name.now bytes.now proved → ⊥) }
     // what is accepted is true: each legal routing by pieces has that number of tracks or more
-    ensures more { IfOk result (λ proved. (f : Fingers) (row : Sequence Column) (r : PieceRouting) → AreKinds f kinds.now
-        → IsArrangement row f → gaps_of row ≤ proved.gaps → ArePiecesLegal (placement_of row) pins.now r
-        → proved.tracks ≤ r.tracks) }
+    ensures more { IfOk result (λ proved. (f : Fingers) (row : Sequence Column) (r : PieceRouting)
+        → AreKinds f kinds.now → IsArrangement row f → gaps_of row ≤ proved.gaps
+        → ArePiecesLegal (placement_of row) pins.now r → proved.tracks ≤ r.tracks) }
 {
     kinds.show_limits();
     let proved = judge(alloc, bound, pins, bytes, name, kinds)?;
