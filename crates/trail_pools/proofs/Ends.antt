@@ -25,20 +25,10 @@ use Rattle.trail_check.specs.Graph.{class_of, has_edge, is_odd}
 use Rattle.trail_check.proofs.Edges.{class_is, meets}
 use Rattle.trail_halves.specs.Halves.{edge_placed, free, half_ends, half_placed, is_even_class, links, place_ends}
 use Rattle.trail_halves.specs.Halves.{short, waiting}
+use Rattle.trail_halves.proofs.Opened.{crossed}
 use Rattle.trail_pools.proofs.Counted.{is_closed_at, settled, shut_ends}
 
 -- ---- orders
-
--- two pairs of lists, turned
-crossed : {X : Type 0} (a b c d : List X) → IsPermutation ((a ++ b) ++ (c ++ d)) ((a ++ c) ++ (b ++ d))
-crossed a b c d =
-    let inner : IsPermutation (b ++ (c ++ d)) (c ++ (b ++ d)) =
-    subst (λ l. IsPermutation l (c ++ (b ++ d))) (append_assoc b c d)
-    (subst (IsPermutation ((b ++ c) ++ d)) (append_assoc c b d)
-    (IsPermutation-append_left d (b ++ c) (c ++ b) (IsPermutation-append_comm b c))) in
-    subst (λ l. IsPermutation l ((a ++ c) ++ (b ++ d))) (sym (append_assoc a b (c ++ d)))
-    (subst (IsPermutation (a ++ (b ++ (c ++ d)))) (sym (append_assoc a c (b ++ d)))
-    (IsPermutation-append_right a (b ++ (c ++ d)) (c ++ (b ++ d)) inner))
 
 added_permutes : (c es : List Edge) → IsPermutation (added es c) (c ++ es)
 added_permutes [] es = IsPermutation-refl es

@@ -17,6 +17,7 @@ pub mod Columns
 pub mod Meets
 pub mod Listed
 pub mod Fronts
+pub mod LongFronts
 pub mod Beside
 pub mod Halved
 pub mod Standing
@@ -26,6 +27,7 @@ pub mod PoolNets
 pub mod Linked
 pub mod Balances
 pub mod NodesMet
+pub mod OddAmong
 pub mod OpenFrom
 pub mod Leveled
 pub mod Stepped

@@ -14,33 +14,23 @@ use Rattle.trail_state.specs.Places.{differ}
 use Rattle.trail_state.proofs.Links.{finger_of, fingers_of, odd_at}
 use Rattle.open_gates.specs.Merged.{net_in}
 use Rattle.trail_check.specs.Graph.{degree, is_odd}
+use Rattle.trail_check.proofs.Counts.{degree_is, parity_is}
 use Rattle.trail_check.proofs.Edges.{meets}
 use Rattle.trail_halves.specs.Halves.{AreBelow, edge_placed, free, half_placed, links, place_of, waiting}
+use Rattle.trail_halves.proofs.Pools as pools
 use Rattle.trail_halves.proofs.Pools.{placed_in, placed_out}
 use Rattle.trail_halves.proofs.Turning.{Turned, edges_turn, ends_in, is_odd_in, odd_in}
 
 abbrev bit : Bool → ℕ
 bit b = if b then 1 else 0
 
--- ---- odd numbers
-
-parity_is : (k : ℕ) → (k % 2 == 1) ≡ parity k
-parity_is zero = refl
-parity_is (suc k) = elim (cases_eq (k % 2) 1) [
-  | inl odd ↦
-      let before : parity k ≡ true = sym (parity_is k) ∙ eq-eqb (k % 2) 1 odd in
-      let now : suc k % 2 ≡ 0 = omega (arith, odd) in
-      ne_eqb (suc k % 2) 1 (λ e. omega (arith, now, e)) ∙ sym (ap not before)
-  | inr other ↦
-      let before : parity k ≡ false = sym (parity_is k) ∙ ne_eqb (k % 2) 1 other in
-      let now : suc k % 2 ≡ 1 = omega (arith, other) in
-      eq-eqb (suc k % 2) 1 now ∙ sym (ap not before)
+pub eq_turned : (a b : ℕ) → (a == b) ≡ (b == a)
+eq_turned a b = elim (cases_eq a b) [
+  | inl e ↦ eq-eqb a b e ∙ sym (eq-eqb b a (sym e))
+  | inr other ↦ ne_eqb a b other ∙ sym (ne_eqb b a (λ e. other (sym e)))
 ]
 
-degree_is : (es : List Edge) (v : ℕ) → degree es v ≡ sum_by (ends_on v) (fingers_of es)
-degree_is [] v = refl
-degree_is (e ∷ es) v =
-    omega (arith, degree_is es v, sum_by-cons (meets v) e es, sum_by-cons (ends_on v) (finger_of e) (fingers_of es))
+-- ---- odd numbers
 
 -- the odd places of edges as fingers, in whatever order
 pub odd_is : (es ds : List Edge) (v : ℕ) → IsPermutation es ds → odd_at es v ≡ is_odd ds v
@@ -81,20 +71,7 @@ module _ (n : ℕ) (r : Row) (pool : ℕ → Bool) where
   ]
 
   pub at_pool : (net v : ℕ) → pool net ≡ true → v < n → (n + net == place_of n r pool v) ≡ (net_in r v == net)
-  at_pool net v is within = elim (cases_eq (net_in r v) net) [
-    | inl e ↦
-        let there : n + net ≡ place_of n r pool v =
-        ap (λ k. n + k) (sym e) ∙ sym (placed_in n r pool v (ap pool e ∙ is)) in
-        eq-eqb (n + net) (place_of n r pool v) there ∙ sym (eq-eqb (net_in r v) net e)
-    | inr other ↦
-        ne_eqb (n + net) (place_of n r pool v) (λ e. elsewhere e other (cases_Bool (pool (net_in r v))))
-        ∙ sym (ne_eqb (net_in r v) net other)
-  ]
-    where
-      elsewhere : n + net ≡ place_of n r pool v → net_in r v ≢ net
-          → (pool (net_in r v) ≡ true) ⊎ (pool (net_in r v) ≡ false) → ⊥
-      elsewhere e other (inl p) = other (omega (arith, e, placed_in n r pool v p))
-      elsewhere e other (inr p) = omega (arith, e, placed_out n r pool v p, within)
+  at_pool net v is within = eq_turned (n + net) (place_of n r pool v) ∙ sym (pools.at_pool n r pool net v is within)
 
   node_edges : (p : ℕ) (es : List Edge) → p < n → pool (net_in r p) ≡ false
       → degree (map (edge_placed n r pool) es) p ≡ degree es p

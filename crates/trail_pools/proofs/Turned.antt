@@ -21,7 +21,7 @@ bits true false = refl
 bits false true = refl
 bits false false = refl
 
-one_more : (v : ℕ) (e : Edge) (es : List Edge)
+pub one_more : (v : ℕ) (e : Edge) (es : List Edge)
     → is_odd (e ∷ es) v ≡ differ (differ (v == e.a.0) (v == e.b.0)) (is_odd es v)
 one_more v e es =
     ap (λ k. k % 2 == 1) (sum_by-cons (ends_at v) e es) ∙ parity_sum (ends_at v e) (degree es v)

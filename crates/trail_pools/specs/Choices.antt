@@ -1,5 +1,5 @@
 -- The open choices of a gate as a list, found finger by finger.
-use Rattle.std.specs.Prelude.{ℕ, Bool, if◌then◌else◌, List, [], ◌∷◌, ◌++◌, fold, map}
+use Rattle.std.specs.Prelude.{ℕ, Bool, false, ◌||◌, if◌then◌else◌, ltb, List, [], ◌∷◌, ◌++◌, fold, length, map}
 use Rattle.std.specs.List.{filter, flat_map, list_any}
 use Rattle.cell_num.specs.declared.finger.Finger.{Finger}
 use Rattle.cell_num.specs.declared.finger.Fingers.{Fingers}
@@ -10,6 +10,7 @@ use Rattle.trail_state.specs.declared.edge.FingerEnds.{FingerEnds}
 use Rattle.trail_state.specs.Choices.{is_on}
 use Rattle.trail_state.specs.Edges.{pair_edges}
 use Rattle.trail_state.specs.Fronts.{without}
+use Rattle.trail_state.specs.Pairings as filled
 use Rattle.trail_state.specs.Pairings.{choices_of, nets_at}
 use Rattle.trail_state.specs.Sorted.{inserted}
 use Rattle.open_gates.specs.Open.{fingers_at, fingers_beside}
@@ -66,3 +67,16 @@ open_choices_of f r counted gate =
     if stays_open f r counted gate
     then front_of r (ends_on gate (fingers_at r f)) (ends_on gate (fingers_beside r f))
     else map filled_choice (choices_of f gate)
+
+-- after one of these fingers of the other row there are more ways than that
+abbrev pub is_long_front : ℕ → Row → List OpenChoice → List FingerEnds → Bool
+is_long_front most r front [] = false
+is_long_front most r front (y ∷ ys) =
+    ltb most (length (next_front r front y)) || is_long_front most r (next_front r front y) ys
+
+-- there are more ways than that to pair the first fingers of the gate
+unfoldable pub has_long_front : ℕ → Fingers → Row → (ℕ → Bool) → ℕ → Bool
+has_long_front most f r counted gate =
+    if stays_open f r counted gate
+    then is_long_front most r (first_front (ends_on gate (fingers_at r f))) (ends_on gate (fingers_beside r f))
+    else filled.has_long_front most f gate

@@ -1,12 +1,14 @@
 -- What inner contracts of the step to a next state cite.
-use Rattle.std.specs.Prelude.{ℕ, ◌+◌, ◌-◌, ◌*◌, ◌==◌, ◌&&◌, ◌||◌, Bool, not, if◌then◌else◌, ltb, List, map, count_by}
-use Rattle.std.specs.Prelude.{sum_by}
+use Rattle.std.specs.Prelude.{ℕ, ◌+◌, ◌-◌, ◌*◌, ◌==◌, ◌&&◌, ◌||◌, Bool, true, not, if◌then◌else◌, ltb, List, [], ◌∷◌}
+use Rattle.std.specs.Prelude.{count_by, fold, map, sum_by}
 use Rattle.std.specs.List.{filter, list_any, range_with_len}
+use Rattle.std.specs.Set.{sorted_merge}
 use Rattle.cell_num.specs.declared.finger.Row.{Row}
 use Rattle.trail_state.specs.declared.edge.Edge.{Edge}
 use Rattle.trail_state.specs.declared.edge.FingerEnds.{FingerEnds}
 use Rattle.trail_state.specs.declared.edge.Node.{Node}
 use Rattle.trail_state.specs.declared.state.Place.{Place}
+use Rattle.trail_state.specs.Nodes.{node_cmp}
 use Rattle.trail_state.specs.Places.{differ, node_at}
 use Rattle.trail_state.specs.Settling.{closing_of, has_class, is_open, kept_of, name_in}
 use Rattle.open_gates.specs.Merged.{net_in}
@@ -19,6 +21,19 @@ use Rattle.trail_pools.specs.declared.settle.PoolSettled.{PoolSettled}
 use Rattle.trail_pools.specs.declared.state.Balance.{Balance}
 use Rattle.trail_pools.specs.declared.state.PoolState.{PoolState}
 use Rattle.trail_pools.specs.State.{balance_in, balanced, open_pools}
+
+-- ---- nodes that can be odd
+
+-- the node beside the others, where it is below n
+abbrev pub with_below : ℕ → List Node → Node → List Node
+with_below n nodes v = if ltb v.0 n then sorted_merge node_cmp true nodes (v ∷ []) else nodes
+
+abbrev pub with_ends_of : ℕ → List Node → Edge → List Node
+with_ends_of n nodes e = with_below n (with_below n nodes e.a) e.b
+
+-- the nodes that were odd and the ends of edges, in ascending order
+abbrev pub candidates : ℕ → List Node → List Edge → List Node
+candidates n odd edges = fold (with_ends_of n) (fold (with_below n) [] odd) edges
 
 -- ---- odd nodes of pools
 

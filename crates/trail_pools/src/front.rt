@@ -61,9 +61,9 @@ fn add_one(
     )
 }
 
-// Adds the choice with the finger of the other row beside each of the half edges.
+/// Adds the choice with the finger of the other row beside each of the half edges.
 #[tactic(auto, using(crate::proofs::Fronts::each_added))]
-fn add_beside(
+pub(crate) fn add_beside(
     alloc: Global,
     all: &mut IndexSet<OpenChoice>,
     row: Row,
@@ -78,7 +78,11 @@ fn add_beside(
     Ok(())
 }
 
-fn first_front(alloc: Global, xs: &[FingerEnds]) -> Result<IndexSet<OpenChoice>, NoMemory>
+/// All fingers of the row alone.
+pub(crate) fn first_front(
+    alloc: Global,
+    xs: &[FingerEnds],
+) -> Result<IndexSet<OpenChoice>, NoMemory>
     ensures { IfOk result (λ front. front.keys ≡ first_front xs.now) }
 {
     let mut front = IndexSet::new(alloc);

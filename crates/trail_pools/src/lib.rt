@@ -3,6 +3,7 @@
 #![tactic(auto)]
 
 mod balance;
+mod candidates;
 mod choices;
 pub mod closed;
 mod fingers;
@@ -14,9 +15,10 @@ mod nodes;
 mod places;
 pub mod pools;
 pub mod settle;
+mod short;
 pub mod state;
 
-pub use choices::{open_choices, stays_open};
+pub use choices::{has_long_front, open_choices, stays_open};
 pub use laws::{all_open_choices, along_order, open_levels, pool_ends};
 pub use level::{OpenPlaces, PoolLevel, levels};
 pub use pools::Pools;

@@ -1,5 +1,6 @@
 ghost use Rattle.std.specs.Prelude.{◌≡◌, ◌≤◌, true, All, IfOk, length, map, not};
 ghost use Rattle.std.specs.List.{filter};
+ghost use Rattle.trail_state.specs.declared.edge.Node.{Node as NodeOf};
 ghost use Rattle.trail_state.specs.Places.{differ, node_at, with_edges};
 ghost use Rattle.trail_state.specs.Settling.{closing_of, is_open};
 ghost use Rattle.trail_check.specs.Graph.{is_odd};
@@ -9,6 +10,7 @@ ghost use Rattle.trail_pools.specs.State.{are_small, ends_after, state_after};
 ghost use Rattle.trail_pools.specs.Stepping.{is_odd_pooled, odd_pooled, settled, shut_of};
 
 use crate::balance::next_balances;
+use crate::candidates::candidates;
 use crate::closed::{all_ends, leave_all, with_ends};
 use crate::level::{OpenPlaces, PoolLevel};
 use crate::links::links;
@@ -47,8 +49,26 @@ fn is_odd_pooled(pools: &Pools, odd: &[Node], edges: &[Edge], node: u32) -> bool
     pools.has(net_in(pools.row, node)) && is_odd(odd, edges, node)
 }
 
-// The nodes of pools that are odd after the edges.
-#[tactic(auto, using(crate::proofs::Turned::few_pooled))]
+// Those of the nodes that are odd after the edges, in pools.
+fn odd_among(
+    alloc: Global,
+    pools: &Pools,
+    odd: &[Node],
+    edges: &[Edge],
+    nodes: &[Node],
+) -> Result<Vec<u32>, AllocError>
+    ensures { IfOk result (λ all. all.items ≡ map (λ (w : NodeOf). w.0)
+        (filter (λ (w : NodeOf). is_odd_pooled pools.now.row (has_pool pools.now) odd.now edges.now w.0) nodes.now)) }
+{
+    nodes
+        .iter()
+        .filter(|node| is_odd_pooled(pools, odd, edges, node.0))
+        .map(|node| node.0)
+        .collect(alloc)
+}
+
+// The nodes of pools that are odd after the edges. These are among those that were odd and the ends of the edges.
+#[tactic(auto, using(crate::proofs::OddAmong::all_among))]
 fn odd_pooled(
     alloc: Global,
     pools: &Pools,
@@ -59,9 +79,9 @@ fn odd_pooled(
         ≡ odd_pooled pools.now.row (has_pool pools.now) odd.now edges.now pools.now.nodes) }
     ensures few { IfOk result (λ all. length all.items ≤ pools.now.nodes) }
 {
-    (0..pools.nodes)
-        .filter(|node| is_odd_pooled(pools, odd, edges, *node))
-        .collect(alloc)
+    let nodes = candidates(alloc, pools.nodes, odd, edges)?;
+    let pooled = odd_among(alloc, pools, odd, edges, nodes.as_slice())?;
+    Ok(pooled)
 }
 
 #[tactic(auto, using(crate::proofs::Turned::few_left))]
