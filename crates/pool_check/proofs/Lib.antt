@@ -1,0 +1,5 @@
+pub mod Low
+pub mod Ordered
+pub mod Refusals
+pub mod Same
+pub mod Told

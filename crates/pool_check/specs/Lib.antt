@@ -1,0 +1,6 @@
+-- Read these first: what contracts of public calls cite.
+pub mod Stepping
+pub mod Accepted
+pub mod Refusal
+-- What inner contracts cite.
+pub mod Same
