@@ -1,6 +1,6 @@
 -- What accepted lemmas say of the gaps of each arrangement.
-use Rattle.std.specs.Prelude.{ℕ, ◌≡◌, ◌+◌, ◌-◌, ◌*◌, ◌≤◌, Bool, List, [], ◌∷◌, All, Contains, Result, Ok, Err, IfOk}
-use Rattle.std.proofs.Common.{refl, sym, subst, arith}
+use Rattle.std.specs.Prelude.{ℕ, ◌+◌, ◌-◌, ◌*◌, ◌≤◌, Bool, List, [], ◌∷◌, Result, Ok, Err, IfOk}
+use Rattle.std.proofs.Common.{refl, subst, arith}
 use Rattle.cell_num.specs.declared.finger.Fingers.{Fingers}
 use Rattle.cell_num.specs.declared.net.NetNo.{NetNo}
 use Rattle.cell_num.specs.Fingers.{AreFingers}
@@ -9,7 +9,6 @@ use Rattle.open_gates.specs.declared.gates.OpenGates.{OpenGates}
 use Rattle.open_gates.specs.Open.{is_left_open, is_merged_net}
 use Rattle.trail_check.specs.Accepted.{IsLow}
 use Rattle.trail_check.specs.Justified.{gaps_proved}
-use Rattle.trail_halves.specs.declared.choice.OpenChoice.{OpenChoice}
 use Rattle.trail_pools.specs.declared.level.PoolLevel.{PoolLevel}
 use Rattle.trail_pools.specs.declared.pools.Pools.{Pools}
 use Rattle.trail_pools.specs.declared.state.PoolState.{PoolState}

@@ -1,7 +1,7 @@
 -- The test of an order decides whether it has each gate of a finger once.
-use Rattle.std.specs.Prelude.{ℕ, ◌≡◌, ◌==◌, ◌&&◌, ◌↔◌, Bool, not, true, false, IsTrue, List, [], ◌∷◌, None, Contains, All}
+use Rattle.std.specs.Prelude.{◌≡◌, ◌==◌, ◌↔◌, not, true, false, IsTrue, List, [], ◌∷◌, None, Contains, All}
 use Rattle.std.specs.List.{filter, list_any}
-use Rattle.std.proofs.Common.{refl, sym, ap, subst, ◌∙◌}
+use Rattle.std.proofs.Common.{refl, sym, ap, subst}
 use Rattle.std.proofs.lemmas.Bool.{and_from, and_parts, and_right, eq-eqb}
 use Rattle.std.proofs.lemmas.List.Elements.{All-head, All-nil, All-tail}
 use Rattle.cell_num.specs.declared.net.NetNo.{NetNo}
@@ -13,8 +13,7 @@ use Rattle.trail_log.specs.declared.trails.TrailCertificate.{TrailCertificate}
 use Rattle.trail_state.specs.Levels.{IsOrder}
 use Rattle.open_gates.specs.Open.{AreOpenGates, HasMore, have_more, is_unfilled, of_gates, row_of}
 use Rattle.trail_check.specs.Gates.{AreGates}
-use Rattle.trail_check.specs.Leveled.{open_of}
-use Rattle.trail_check.specs.Tests.{gates_test, is_order}
+use Rattle.trail_check.specs.Tests.{is_order}
 use Rattle.trail_check.proofs.Decided.{gates_decide}
 
 module _ (f : Fingers) (order : List NetNo) where

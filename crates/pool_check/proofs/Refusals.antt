@@ -1,6 +1,5 @@
 -- What is refused for a fault is never accepted.
-use Rattle.std.specs.Prelude.{ℕ, ◌≡◌, ◌≢◌, List, Some, None, take, slice_get, Result, Ok, Err, IfErr}
-use Rattle.std.proofs.Common.{sym}
+use Rattle.std.specs.Prelude.{ℕ, ◌≢◌, List, Result, Ok, Err, IfErr}
 use Rattle.cell_num.specs.declared.finger.Fingers.{Fingers}
 use Rattle.cell_num.specs.declared.net.NetNo.{NetNo}
 use Rattle.open_gates.specs.declared.gates.OpenGates.{OpenGates}
@@ -8,7 +7,7 @@ use Rattle.trail_pools.specs.declared.state.PoolState.{PoolState}
 use Rattle.end_lemmas.specs.declared.lemma.EndLemma.{EndLemma}
 use Rattle.pool_check.specs.declared.refusal.PoolRefusal.{PoolRefusal}
 use Rattle.pool_check.specs.declared.refusal.PoolRefusal.TheVariants as refusal
-use Rattle.pool_check.specs.Accepted.{IsAccepted, IsNeverAccepted}
+use Rattle.pool_check.specs.Accepted.{IsNeverAccepted}
 use Rattle.pool_check.specs.Refusal.{IsFault, Refuses}
 
 module _ (f : Fingers) (opened : OpenGates) (order : List NetNo) (lemmas : List (EndLemma PoolState)) where

@@ -1,5 +1,5 @@
 -- Why lemmas on ends are refused, each cause with what was found in order before it.
-use Rattle.std.specs.Prelude.{ℕ, ◌≡◌, List, Some}
+use Rattle.std.specs.Prelude.{◌≡◌, List, Some}
 use Rattle.cell_num.specs.declared.finger.Fingers.{Fingers}
 use Rattle.cell_num.specs.declared.net.NetNo.{NetNo}
 use Rattle.trail_state.specs.Levels.{IsOrder}

@@ -1,5 +1,5 @@
 -- The steps of states along an order of gates whose half columns stay open.
-use Rattle.std.specs.Prelude.{ℕ, ◌≤◌}
+use Rattle.std.specs.Prelude.{◌≤◌}
 use Rattle.cell_num.specs.declared.finger.Fingers.{Fingers}
 use Rattle.open_gates.specs.declared.gates.OpenGates.{OpenGates}
 use Rattle.trail_halves.specs.declared.choice.OpenChoice.{OpenChoice}

@@ -1,15 +1,15 @@
 -- Fronts so far, and whether one of them is long.
-use Rattle.std.specs.Prelude.{ℕ, ◌≡◌, ◌+◌, ◌<◌, ◌≤◌, Bool, true, false, ◌||◌, leb, ltb, if◌then◌else◌, List, [], ◌∷◌, ◌++◌, drop, fold, length, take}
+use Rattle.std.specs.Prelude.{ℕ, ◌≡◌, ◌+◌, ◌<◌, ◌≤◌, Bool, true, false, ◌||◌, ltb, if◌then◌else◌, List, [], ◌∷◌, ◌++◌, drop, fold, length, take}
 use Rattle.std.specs.List.{list_any}
-use Rattle.std.proofs.Common.{refl, sym, ap, subst, arith, ◌∙◌, get_or}
-use Rattle.std.proofs.lemmas.Bool.{cases_Bool, ltb-true, lt-ltb}
+use Rattle.std.proofs.Common.{sym, ap, subst, arith, ◌∙◌, get_or}
+use Rattle.std.proofs.lemmas.Bool.{ltb-true, lt-ltb}
 use Rattle.std.proofs.lemmas.List.{at_drop_all, at_drop_more, length-append, take-append-drop, take_more}
 use Rattle.std.proofs.lemmas.List.Sums.{fold-append}
 use Rattle.cell_num.specs.declared.finger.Row.{Row}
 use Rattle.trail_state.specs.declared.edge.FingerEnds.{FingerEnds}
 use Rattle.trail_halves.specs.declared.choice.OpenChoice.{OpenChoice}
 use Rattle.trail_halves.specs.Same.{is_same}
-use Rattle.trail_pools.specs.Choices.{beside, first_front, is_long_front, next_front, with_all, with_new}
+use Rattle.trail_pools.specs.Choices.{beside, is_long_front, next_front, with_all, with_new}
 
 -- ---- adding choices takes none out
 

@@ -1,17 +1,17 @@
 -- How often edges between places meet a node in no pool, and a pool.
-use Rattle.std.proofs.Common.{ℕ, zero, suc, ◌≡◌, ◌≢◌, ◌+◌, ◌%◌, ◌<◌, ◌==◌, Bool, true, false, not, if◌then◌else◌, List}
-use Rattle.std.proofs.Common.{[], ◌∷◌, ◌++◌, map, refl, sym, ap, arith, ◌∙◌, inl, inr, ◌⊎◌, ◌&&◌, IsPermutation, sum_by}
+use Rattle.std.proofs.Common.{ℕ, ◌≡◌, ◌≢◌, ◌+◌, ◌%◌, ◌<◌, ◌==◌, Bool, true, false, not, if◌then◌else◌, List}
+use Rattle.std.proofs.Common.{[], ◌∷◌, ◌++◌, map, refl, sym, ap, arith, ◌∙◌, inl, inr, ◌&&◌, IsPermutation, sum_by}
 use Rattle.std.proofs.lemmas.Bool.{both_ways, cases_Bool, cases_eq, eq-eqb, ne_eqb}
 use Rattle.std.proofs.lemmas.List.Elements.{All-head, All-tail}
 use Rattle.std.proofs.lemmas.List.Sorted.{sum_by-IsPermutation}
 use Rattle.std.proofs.lemmas.List.Sums.{sum_by-append, sum_by-cons}
 use Rattle.cell_num.specs.declared.finger.Row.{Row}
 use Rattle.row_trails.specs.Trails.{size_none, size_same}
-use Rattle.row_state.specs.Parity.{ends_on, parity}
+use Rattle.row_state.specs.Parity.{parity}
 use Rattle.trail_state.specs.declared.edge.Edge.{Edge}
 use Rattle.trail_state.specs.declared.edge.FingerEnds.{FingerEnds}
 use Rattle.trail_state.specs.Places.{differ}
-use Rattle.trail_state.proofs.Links.{finger_of, fingers_of, odd_at}
+use Rattle.trail_state.proofs.Links.{odd_at}
 use Rattle.open_gates.specs.Merged.{net_in}
 use Rattle.trail_check.specs.Graph.{degree, is_odd}
 use Rattle.trail_check.proofs.Counts.{degree_is, parity_is}
