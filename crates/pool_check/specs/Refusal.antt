@@ -22,7 +22,8 @@ Refuses f opened order lemmas (refusal.Unproved at) =
     × IsUnproved (steps_of f opened) (levels_of f opened order) lemmas at
 Refuses f opened order lemmas refusal.NoMemory = Unit {0}
 
--- A fault of what is checked. The other two causes are limits of a checker: one with more memory and time may accept it.
+-- A fault of what is checked. The other two causes are limits of a checker: one with more memory and time may accept
+-- it.
 abbrev pub IsFault : PoolRefusal → Type 0
 IsFault (refusal.Choices gate) = ⊥
 IsFault refusal.NoMemory = ⊥

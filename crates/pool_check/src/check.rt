@@ -42,9 +42,9 @@ fn check_lemmas(
     }
 }
 
-/// The ends of trails that the lemmas prove of every row of the fingers, where half columns of these gates stay open and
-/// each lemma is justified by those before it. Where that is k ends, no arrangement has fewer than k / 2 - 1 gaps. Else
-/// the first cause to refuse the lemmas. A gate with too many ways is no fault of theirs, nor is a lack of memory.
+/// The ends of trails that the lemmas prove of every row of the fingers, where half columns of these gates stay open
+/// and each lemma is justified by those before it. Where that is k ends, no arrangement has fewer than k / 2 - 1 gaps.
+/// Else the first cause to refuse the lemmas. A gate with too many ways is no fault of theirs, nor is a lack of memory.
 #[tactic(auto, using(crate::proofs::Told::check_rules))]
 pub fn check_pools(
     alloc: Global,
