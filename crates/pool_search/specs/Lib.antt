@@ -1,0 +1,1 @@
+-- No definitions of its own: its contract cites those of end_search and pool_check.
