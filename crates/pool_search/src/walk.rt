@@ -17,7 +17,9 @@ impl EndSteps for PoolWalk {
     ghost use Rattle.pool_check.specs.Stepping.{AreFew, pool_steps};
 
     type Level = PoolLevel;
+
     type Choice = OpenChoice;
+
     type State = PoolState;
 
     ghost steps = { λ w. pool_steps w.steps.pools };
