@@ -1,0 +1,3 @@
+-- What contracts of public calls cite.
+pub mod Listed
+pub mod Lines

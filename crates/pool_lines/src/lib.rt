@@ -1,0 +1,10 @@
+// The states that lines of certificates with pools list, by the levels of an order.
+#![tactic(auto)]
+
+mod balances;
+mod line;
+mod listed;
+mod places;
+
+pub use line::line_of;
+pub use listed::state_listed;
