@@ -5,15 +5,15 @@ pub mod FirstLabels
 pub mod Holding
 pub mod Marks
 mod NodeLines
-mod Numbers
+pub mod Numbers
 mod OnePieceTold
 mod OnePiecing
-mod PieceChannel
+pub mod PieceChannel
 mod PieceDensity
-mod PieceLegal
-mod PieceSteps
+pub mod PieceLegal
+pub mod PieceSteps
 mod PieceTelling
-mod PieceWalks
-mod Sorting
+pub mod PieceWalks
+pub mod Sorting
 mod StuckPieces
 pub mod Wired

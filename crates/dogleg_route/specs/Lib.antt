@@ -2,8 +2,8 @@
 pub mod Firsts
 pub mod PieceCycles
 pub mod PieceTold
+pub mod PieceWires
 pub mod Pieces
 pub mod Routings
 -- What inner contracts and proofs alone cite.
 pub mod Cuts
-pub mod PieceWires

@@ -11,4 +11,4 @@ pub use cut::Stretch;
 pub use drawn::{draw_pieces, piece_distances};
 pub use laws::{no_piece_cycle, one_piece_routing, one_piece_told, pieces_apart, pieces_are_wired};
 pub use piece::{Piece, PieceAbove, PieceCycle, PieceList, PieceRouting, PieceStop};
-pub use router::route_pieces;
+pub use router::{piece_wires, route_pieces};

@@ -35,8 +35,12 @@ fn entries_of(alloc: Global, cycle: &[Step]) -> Result<PieceCycle, AllocError>
     Ok(List::from_vec(entries))
 }
 
-// The pieces of a placement as wires, whose keys are their places in order of first line, last line and net.
-fn piece_wires(alloc: Global, placement: &Placement, pins: &Pins) -> Result<Vec<Wire>, AllocError>
+/// The pieces of a placement as wires, whose keys are their places in order of first line, last line and net.
+pub fn piece_wires(
+    alloc: Global,
+    placement: &Placement,
+    pins: &Pins,
+) -> Result<Vec<Wire>, AllocError>
     requires placement { IsPlacement placement.now }
     requires pins { HasPins placement.now pins.now }
     ensures wires { IfOk result (λ wires. ArePieceWires placement.now pins.now wires.items) }
