@@ -1,5 +1,5 @@
 -- The trunks of a placement, whatever their tracks: there is one list of them.
-use Rattle.std.proofs.Common.{ℕ, ◌≡◌, ◌≢◌, ◌<◌, ◌≤◌, ◌==◌, ◌↔◌, true, false, List, [], ◌∷◌, length, map, inl, inr, refl, sym, ap, subst, arith, ◌∙◌, Any, Contains, IsPermutation, IsSorted}
+use Rattle.std.proofs.Common.{ℕ, ◌≡◌, ◌≢◌, ◌<◌, ◌≤◌, ◌==◌, ◌↔◌, true, false, List, [], ◌∷◌, length, map, inl, inr, refl, sym, ap, subst, arith, ◌∙◌, Any, AllPairs, Contains, IsPermutation, IsSorted}
 use Rattle.std.specs.Ordering.{is_lt}
 use Rattle.std.proofs.lemmas.Bool.{cases_order}
 use Rattle.std.proofs.lemmas.List.Elements.{All-contains}
@@ -21,8 +21,19 @@ use Rattle.channel_route.specs.Wires.{IsWire, AreWires, trunk_cmp}
 use Rattle.channel_route.proofs.FilledTracks.{count_map, one_each_like}
 use Rattle.channel_route.proofs.NetWires.{cmp_less}
 use Rattle.channel_route.proofs.TrunkChannel.{is_wire, wire_of_net}
-use Rattle.first_route.specs.Ways.{low_wire, on_track, on_tracks}
-use Rattle.first_route.proofs.Legal.{AreInOrder}
+use Rattle.first_route.specs.Ways.{low_wire, net_wire, on_tracks}
+
+abbrev pub at_track : Trunk → ℕ → Trunk
+at_track t track = record { net = t.net; left = t.left; right = t.right; track = track }
+
+-- the trunks, each on its track
+abbrev pub at_tracks : List Trunk → List ℕ → List Trunk
+at_tracks (t ∷ trunks) (track ∷ tracks) = at_track t track ∷ at_tracks trunks tracks
+at_tracks _ _ = []
+
+-- in order of net
+abbrev pub AreInOrder : List Trunk → Type 0
+AreInOrder trunks = AllPairs (λ a b. a.net.0 < b.net.0) trunks
 
 -- each net that needs a trunk has one, over its span, in order of net
 pub record AreBare (placement : Placement) (pins : Pins) (trunks : List Trunk) : Type 0 where
@@ -31,7 +42,7 @@ pub record AreBare (placement : Placement) (pins : Pins) (trunks : List Trunk) :
   pub spans : (t : Trunk) → Contains trunks t → IsSpan placement t.net t.left t.right
 
 abbrev pub low : Trunk → Trunk
-low t = on_track t 0
+low t = at_track t 0
 
 -- the same trunks on the lowest track
 order_low : (ts : List Trunk) → AreInOrder ts → AreInOrder (map low ts)
@@ -99,25 +110,31 @@ pub one_bare : (p : Placement) (pins : Pins) (xs ys : List Trunk) → AreBare p 
 one_bare p pins xs ys hx hy = same_list (λ (a b : Trunk). a.net.0 < b.net.0) (λ a b e f. omega (arith, e, f)) (map low xs) (map low ys) (order_low xs hx.order) (order_low ys hy.order) (there_too p pins xs ys hx hy) (there_too p pins ys xs hy hx)
 
 -- put back on their tracks
-pub tracks_back : (ts : List Trunk) → on_tracks (map low ts) (map (λ (t : Trunk). t.track) ts) ≡ ts
+pub tracks_back : (ts : List Trunk) → at_tracks (map low ts) (map (λ (t : Trunk). t.track) ts) ≡ ts
 tracks_back [] = refl
 tracks_back (t ∷ ts) = ap (λ (xs : List Trunk). t ∷ xs) (tracks_back ts)
 
-pub tracks_on_low : (ts : List Trunk) (way : List ℕ) → on_tracks (map low ts) way ≡ on_tracks ts way
+pub tracks_on_low : (ts : List Trunk) (way : List ℕ) → at_tracks (map low ts) way ≡ at_tracks ts way
 tracks_on_low [] way = refl
 tracks_on_low (t ∷ ts) [] = refl
-tracks_on_low (t ∷ ts) (x ∷ way) = ap (λ (xs : List Trunk). on_track t x ∷ xs) (tracks_on_low ts way)
+tracks_on_low (t ∷ ts) (x ∷ way) = ap (λ (xs : List Trunk). at_track t x ∷ xs) (tracks_on_low ts way)
 
-pub low_on_tracks : (ts : List Trunk) (way : List ℕ) → length ts ≡ length way → map low (on_tracks ts way) ≡ map low ts
+pub low_on_tracks : (ts : List Trunk) (way : List ℕ) → length ts ≡ length way → map low (at_tracks ts way) ≡ map low ts
 low_on_tracks [] way same = refl
 low_on_tracks (t ∷ ts) [] same = absurd (omega (arith, same))
 low_on_tracks (t ∷ ts) (x ∷ way) same = ap (λ (xs : List Trunk). low t ∷ xs) (low_on_tracks ts way (omega (arith, same)))
 
-pub tracks_on_tracks : (ts : List Trunk) (way : List ℕ) → length ts ≡ length way → map (λ (t : Trunk). t.track) (on_tracks ts way) ≡ way
+pub tracks_on_tracks : (ts : List Trunk) (way : List ℕ) → length ts ≡ length way → map (λ (t : Trunk). t.track) (at_tracks ts way) ≡ way
 tracks_on_tracks [] [] same = refl
 tracks_on_tracks [] (x ∷ way) same = absurd (omega (arith, same))
 tracks_on_tracks (t ∷ ts) [] same = absurd (omega (arith, same))
 tracks_on_tracks (t ∷ ts) (x ∷ way) same = ap (λ (xs : List ℕ). x ∷ xs) (tracks_on_tracks ts way (omega (arith, same)))
+
+-- as the wires of the trunks are placed
+pub trunks_placed : (ts : List Trunk) (way : List ℕ) → map trunk_of (on_tracks (map net_wire ts) way) ≡ at_tracks ts way
+trunks_placed [] way = refl
+trunks_placed (t ∷ ts) [] = refl
+trunks_placed (t ∷ ts) (x ∷ way) = ap (λ (xs : List Trunk). at_track t x ∷ xs) (trunks_placed ts way)
 
 net_less : (a b c : Trunk) → a.net.0 < b.net.0 → b.net.0 < c.net.0 → a.net.0 < c.net.0
 net_less a b c e f = omega (arith, e, f)

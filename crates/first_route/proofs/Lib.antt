@@ -1,6 +1,6 @@
-mod Bare
-mod Fitting
-mod Legal
+pub mod Bare
+pub mod Fitting
+pub mod Legal
 mod OneFirst
 mod Openings
 mod Steps

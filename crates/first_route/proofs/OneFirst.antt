@@ -5,8 +5,7 @@ use Rattle.row_place.specs.declared.placement.Placement.{Placement}
 use Rattle.channel_route.specs.declared.routing.Trunk.{Trunk}
 use Rattle.channel_route.specs.declared.routing.Routing.{Routing}
 use Rattle.first_route.specs.First.{tracks_of, IsNoLater, IsFirstRouting}
-use Rattle.first_route.specs.Ways.{on_tracks}
-use Rattle.first_route.proofs.Bare.{low, one_bare, tracks_back}
+use Rattle.first_route.proofs.Bare.{at_tracks, low, one_bare, tracks_back}
 use Rattle.first_route.proofs.Whole.{bare_of}
 
 no_later_same : (xs ys : List ℕ) → IsNoLater xs ys → IsNoLater ys xs → xs ≡ ys
@@ -40,8 +39,8 @@ one_first p pins count a b ha hb = routing_same a b (omega (arith, ha.is.tracks,
     tracks : tracks_of a ≡ tracks_of b
     tracks = no_later_same (tracks_of a) (tracks_of b) (ha.first b hb.is) (hb.first a ha.is)
 
-    joined : {ts us : List Trunk} {xs ys : List ℕ} → ts ≡ us → xs ≡ ys → on_tracks ts xs ≡ on_tracks us ys
+    joined : {ts us : List Trunk} {xs ys : List ℕ} → ts ≡ us → xs ≡ ys → at_tracks ts xs ≡ at_tracks us ys
     joined e f = cc
 
-    same : on_tracks (map low a.trunks) (tracks_of a) ≡ on_tracks (map low b.trunks) (tracks_of b)
+    same : at_tracks (map low a.trunks) (tracks_of a) ≡ at_tracks (map low b.trunks) (tracks_of b)
     same = joined trunks tracks

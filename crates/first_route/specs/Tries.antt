@@ -1,23 +1,24 @@
--- How many tries there are to put trunks on tracks. A try is a trunk that is put on a track.
+-- How many tries there are to put wires on tracks. A try is a wire that is put on a track.
 use Rattle.std.specs.Prelude.{ℕ, ◌≡◌, ◌<◌, ◌+◌, ◌++◌, cond, List, [], ◌∷◌, map, IsPermutation, IsSorted}
 use Rattle.cell_num.specs.declared.net.Pins.{Pins}
 use Rattle.cell_num.specs.Fingers.{sum_below}
 use Rattle.row_place.specs.declared.placement.Placement.{Placement}
 use Rattle.channel_route.specs.declared.routing.Trunk.{Trunk}
 use Rattle.channel_route.specs.declared.wire.Wire.{Wire}
+use Rattle.channel_route.specs.declared.wire.PlacedWire.{PlacedWire}
 use Rattle.channel_route.specs.declared.constraint.Constraint.{Constraint}
 use Rattle.channel_route.specs.Graph.{trunk_of}
 use Rattle.channel_route.specs.Wires.{AreWires, constraints_of, trunk_cmp}
-use Rattle.first_route.specs.Ways.{fits, is_open, low_wire, on_track}
+use Rattle.first_route.specs.Ways.{fits, is_open, low_wire, net_wire, on_track}
 
--- Each track on which the first trunk that is left fits is a try, and those of the others after it count too, where
+-- Each track on which the first wire that is left fits is a try, and those of the others after it count too, where
 -- each of them still fits on a track and they can fill the empty ones.
-abbrev pub tries : List Constraint → ℕ → List Trunk → List Trunk → ℕ
+abbrev pub tries : List Constraint → ℕ → List PlacedWire → List Wire → ℕ
 tries constraints tracks placed [] = 0
-tries constraints tracks placed (t ∷ left) =
-    cond (is_open constraints tracks placed (t ∷ left))
-    (sum_below (λ track. cond (fits constraints placed (on_track t track))
-    (1 + tries constraints tracks (placed ++ on_track t track ∷ []) left) 0) tracks) 0
+tries constraints tracks placed (w ∷ left) =
+    cond (is_open constraints tracks placed (w ∷ left))
+    (sum_below (λ track. cond (fits constraints placed (on_track w track))
+    (1 + tries constraints tracks (placed ++ on_track w track ∷ []) left) 0) tracks) 0
 
 -- all tries to put the trunks of a placement, in order of net, on that many tracks
 pub record AreAllTries (placement : Placement) (pins : Pins) (count all : ℕ) : Type 0 where
@@ -26,7 +27,7 @@ pub record AreAllTries (placement : Placement) (pins : Pins) (count all : ℕ) :
   pub trunks : List Trunk
   pub moved : IsPermutation (map trunk_of (map low_wire wires)) trunks
   pub sorted : IsSorted trunk_cmp trunks
-  pub are : all ≡ tries (constraints_of wires placement.nodes) count [] trunks
+  pub are : all ≡ tries (constraints_of wires placement.nodes) count [] (map net_wire trunks)
 
 -- all tries were made, of those that the budget had before
 abbrev pub WereMade : Placement → Pins → ℕ → ℕ → ℕ → Type 0

@@ -3,41 +3,17 @@ ghost use Rattle.channel_route.specs.Graph.{trunk_of};
 ghost use Rattle.channel_route.specs.Wires.{trunk_cmp};
 ghost use Rattle.row_place.specs.Places.{IsPlacement};
 ghost use Rattle.row_place.specs.Trunks.{HasPins};
-ghost use Rattle.first_route.specs.declared.first.FirstStop.TheVariants as because;
+ghost use Rattle.first_route.specs.declared.stop.FirstStop.TheVariants as because;
 ghost use Rattle.first_route.specs.First.{HasNoRouting, IsFirstRouting};
 ghost use Rattle.first_route.specs.Tries.{AreMore, WereMade};
-ghost use Rattle.first_route.specs.Ways.{low_wire};
+ghost use Rattle.first_route.specs.Ways.{low_wire, net_wire};
 
-use crate::descent::{Channel, descend};
-use cell_num::{Halt, List, Pins};
+use crate::FirstStop;
+use crate::way::first_way;
+use cell_num::{List, Pins};
 use channel_route::{PlacedWire, Routing, Trunk, Wire, constraints, trunks_of, wires};
 use row_place::Placement;
 use std::alloc::{AllocError, Global};
-use thiserror::Error;
-
-/// Why there is no first routing.
-#[derive(Debug, Drop, Error)]
-pub enum FirstStop {
-    /// No legal routing has that many tracks.
-    #[error("no legal routing has so many tracks")]
-    None,
-    /// The tries of the budget are spent.
-    #[error("the tries of the budget are spent")]
-    Spent,
-    #[error("out of memory")]
-    NoMemory,
-}
-
-impl From<AllocError> for FirstStop {
-    ghost use Rattle.std.specs.Prelude.{◌≡◌};
-    ghost use Rattle.first_route.specs.declared.first.FirstStop.TheVariants.{NoMemory};
-
-    ghost from_gives = { λ _ e. e ≡ NoMemory };
-
-    fn from(_: AllocError) -> FirstStop {
-        FirstStop::NoMemory
-    }
-}
 
 // The trunks of wires, all on the lowest track, in order of net.
 fn low_trunks(alloc: Global, wires: &[Wire]) -> Result<Vec<Trunk>, AllocError>
@@ -52,6 +28,38 @@ fn low_trunks(alloc: Global, wires: &[Wire]) -> Result<Vec<Trunk>, AllocError>
         })?;
     }
     trunks_of(alloc, &placed)
+}
+
+// The wires of trunks, whose keys are the numbers of their nets.
+fn net_wires(alloc: Global, trunks: &[Trunk]) -> Result<Vec<Wire>, AllocError>
+    ensures { IfOk result (λ wires. wires.items ≡ map net_wire trunks.now) }
+{
+    let mut wires = Vec::new(alloc);
+    for trunk in trunks {
+        wires.push(Wire {
+            left: trunk.left,
+            key: trunk.net.0,
+            right: trunk.right,
+            net: trunk.net,
+        })?;
+    }
+    Ok(wires)
+}
+
+// The trunks of wires on their tracks, in the order of the wires.
+fn placed_trunks(alloc: Global, placed: &[PlacedWire]) -> Result<Vec<Trunk>, AllocError>
+    ensures { IfOk result (λ trunks. trunks.items ≡ map trunk_of placed.now) }
+{
+    let mut trunks = Vec::new(alloc);
+    for one in placed {
+        trunks.push(Trunk {
+            net: one.wire.net,
+            left: one.wire.left,
+            right: one.wire.right,
+            track: one.track,
+        })?;
+    }
+    Ok(trunks)
 }
 
 /// The first of the legal routings of a placement on N tracks: it has the lowest track for the first net, of
@@ -79,18 +87,15 @@ pub fn first_routing(
     let wires = wires(alloc, placement, pins)?;
     let constraints = constraints(alloc, &wires, placement.nodes.as_slice())?;
     let trunks = low_trunks(alloc, &wires)?;
-    let channel = Channel {
-        constraints: &constraints,
-        tracks,
-    };
-    let mut placed = Vec::new(alloc);
-    match descend(&channel, &trunks, &mut placed, budget) {
-        Ok(true) => Ok(Routing {
-            tracks,
-            trunks: List::from_vec(placed),
-        }),
-        Ok(false) => Err(FirstStop::None),
-        Err(Halt::Spent) => Err(FirstStop::Spent),
-        Err(Halt::NoMemory) => Err(FirstStop::NoMemory),
+    let by_net = net_wires(alloc, &trunks)?;
+    match first_way(alloc, &constraints, &by_net, tracks, budget) {
+        Ok(placed) => {
+            let trunks = placed_trunks(alloc, &placed)?;
+            Ok(Routing {
+                tracks,
+                trunks: List::from_vec(trunks),
+            })
+        }
+        Err(stop) => Err(stop),
     }
 }

@@ -1,68 +1,75 @@
-// Whether a trunk fits on a track beside those that are placed.
+// Whether a wire fits on a track beside those that are placed.
 
 ghost use Rattle.std.specs.Prelude.{◌≡◌, ◌&&◌};
 ghost use Rattle.std.specs.List.{list_all};
-ghost use Rattle.first_route.specs.Ways.{concerns, fits, is_clear, is_kept, is_over, on_track};
+ghost use Rattle.first_route.specs.Ways.{are_apart, concerns, fits, is_clear, is_kept, is_over, on_track};
 
-use channel_route::{Constraint, Trunk};
+use channel_route::{Constraint, PlacedWire, Wire};
 
-/// The trunk on another track.
-pub(crate) fn on_track(trunk: &Trunk, track: u32) -> Trunk
-    ensures { result ≡ on_track trunk.now track }
+/// The wire on a track.
+pub(crate) fn on_track(wire: &Wire, track: u32) -> PlacedWire
+    ensures { result ≡ on_track wire.now track }
 {
-    Trunk { track, ..*trunk }
+    PlacedWire { wire: *wire, track }
 }
 
-fn is_clear(trunk: &Trunk, other: &Trunk) -> bool
-    ensures { result ≡ is_clear trunk.now other.now }
+fn are_apart(a: &Wire, b: &Wire) -> bool
+    ensures { result ≡ are_apart a.now b.now }
 {
-    trunk.track != other.track || (trunk.right < other.left || other.right < trunk.left)
+    a.right < b.left || b.right < a.left
 }
 
-fn is_over(constraint: &Constraint, upper: &Trunk, lower: &Trunk) -> bool
+fn is_clear(one: &PlacedWire, other: &PlacedWire) -> bool
+    ensures { result ≡ is_clear one.now other.now }
+{
+    one.track != other.track
+        || (one.wire.net.0 == other.wire.net.0 || are_apart(&one.wire, &other.wire))
+}
+
+fn is_over(constraint: &Constraint, upper: &PlacedWire, lower: &PlacedWire) -> bool
     ensures { result ≡ is_over constraint.now upper.now lower.now }
 {
-    !(constraint.upper == upper.net.0 && constraint.lower == lower.net.0)
+    !(constraint.upper == upper.wire.key && constraint.lower == lower.wire.key)
         || lower.track < upper.track
 }
 
-fn concerns(constraint: &Constraint, trunk: &Trunk) -> bool
-    ensures { result ≡ concerns constraint.now trunk.now }
+fn concerns(constraint: &Constraint, one: &PlacedWire) -> bool
+    ensures { result ≡ concerns constraint.now one.now }
 {
-    constraint.upper == trunk.net.0 || constraint.lower == trunk.net.0
+    constraint.upper == one.wire.key || constraint.lower == one.wire.key
 }
 
-fn keeps_order(constraint: &Constraint, trunk: &Trunk, placed: &[Trunk]) -> bool
-    ensures { result ≡ list_all (λ o. is_over constraint.now trunk.now o && is_over constraint.now o trunk.now)
+fn keeps_order(constraint: &Constraint, one: &PlacedWire, placed: &[PlacedWire]) -> bool
+    ensures { result ≡ list_all (λ o. is_over constraint.now one.now o && is_over constraint.now o one.now)
         placed.now }
 {
-    placed.iter().all(|other| is_over(constraint, trunk, other)
-        && is_over(constraint, other, trunk))
+    placed.iter().all(|other| is_over(constraint, one, other) && is_over(constraint, other, one))
 }
 
-fn is_kept(placed: &[Trunk], trunk: &Trunk, constraint: &Constraint) -> bool
-    ensures { result ≡ is_kept placed.now trunk.now constraint.now }
+fn is_kept(placed: &[PlacedWire], one: &PlacedWire, constraint: &Constraint) -> bool
+    ensures { result ≡ is_kept placed.now one.now constraint.now }
 {
-    !concerns(constraint, trunk) || keeps_order(constraint, trunk, placed)
+    !concerns(constraint, one) || keeps_order(constraint, one, placed)
 }
 
-fn are_clear(placed: &[Trunk], trunk: &Trunk) -> bool
-    ensures { result ≡ list_all (is_clear trunk.now) placed.now }
+fn are_clear(placed: &[PlacedWire], one: &PlacedWire) -> bool
+    ensures { result ≡ list_all (is_clear one.now) placed.now }
 {
-    placed.iter().all(|other| is_clear(trunk, other))
+    placed.iter().all(|other| is_clear(one, other))
 }
 
-fn are_kept(constraints: &[Constraint], placed: &[Trunk], trunk: &Trunk) -> bool
-    ensures { result ≡ list_all (is_kept placed.now trunk.now) constraints.now }
+fn are_kept(constraints: &[Constraint], placed: &[PlacedWire], one: &PlacedWire) -> bool
+    ensures { result ≡ list_all (is_kept placed.now one.now) constraints.now }
 {
     constraints
         .iter()
-        .all(|constraint| is_kept(placed, trunk, constraint))
+        .all(|constraint| is_kept(placed, one, constraint))
 }
 
-/// Whether the trunk shares no line with one on its track, and is above and below others as the constraints require.
-pub(crate) fn fits(constraints: &[Constraint], placed: &[Trunk], trunk: &Trunk) -> bool
-    ensures { result ≡ fits constraints.now placed.now trunk.now }
+/// Whether the wire shares no line with one of another net on its track, and is above and below others as the
+/// constraints require.
+pub(crate) fn fits(constraints: &[Constraint], placed: &[PlacedWire], one: &PlacedWire) -> bool
+    ensures { result ≡ fits constraints.now placed.now one.now }
 {
-    are_clear(placed, trunk) && are_kept(constraints, placed, trunk)
+    are_clear(placed, one) && are_kept(constraints, placed, one)
 }

@@ -1,19 +1,19 @@
-// Whether the trunks that are left may still find their tracks.
+// Whether the wires that are left may still find their tracks.
 
 ghost use Rattle.std.specs.Prelude.{◌≡◌, ◌≤◌, length};
 ghost use Rattle.std.specs.List.{list_all};
 ghost use Rattle.first_route.specs.Ways.{empty_tracks, has_track, is_open, is_used};
 
 use crate::fit::{fits, on_track};
-use channel_route::{Constraint, Trunk};
+use channel_route::{Constraint, PlacedWire, Wire};
 
-fn is_used(placed: &[Trunk], track: u32) -> bool
+fn is_used(placed: &[PlacedWire], track: u32) -> bool
     ensures { result ≡ is_used placed.now track }
 {
-    placed.iter().any(|trunk| trunk.track == track)
+    placed.iter().any(|one| one.track == track)
 }
 
-fn empty_tracks(tracks: u32, placed: &[Trunk]) -> u32
+fn empty_tracks(tracks: u32, placed: &[PlacedWire]) -> u32
     ensures { result ≡ empty_tracks tracks placed.now }
 {
     let mut empty = 0;
@@ -25,25 +25,30 @@ fn empty_tracks(tracks: u32, placed: &[Trunk]) -> u32
     empty
 }
 
-fn has_track(constraints: &[Constraint], tracks: u32, placed: &[Trunk], trunk: &Trunk) -> bool
-    ensures { result ≡ has_track constraints.now tracks placed.now trunk.now }
+fn has_track(constraints: &[Constraint], tracks: u32, placed: &[PlacedWire], wire: &Wire) -> bool
+    ensures { result ≡ has_track constraints.now tracks placed.now wire.now }
 {
-    (0..tracks).any(|track| fits(constraints, placed, &on_track(trunk, track)))
+    (0..tracks).any(|track| fits(constraints, placed, &on_track(wire, track)))
 }
 
-fn have_tracks(constraints: &[Constraint], tracks: u32, placed: &[Trunk], left: &[Trunk]) -> bool
+fn have_tracks(
+    constraints: &[Constraint],
+    tracks: u32,
+    placed: &[PlacedWire],
+    left: &[Wire],
+) -> bool
     ensures { result ≡ list_all (has_track constraints.now tracks placed.now) left.now }
 {
     left.iter()
-        .all(|trunk| has_track(constraints, tracks, placed, trunk))
+        .all(|wire| has_track(constraints, tracks, placed, wire))
 }
 
-/// Whether the trunks that are left can fill the empty tracks, and each of them fits on some track.
+/// Whether the wires that are left can fill the empty tracks, and each of them fits on some track.
 pub(crate) fn is_open(
     constraints: &[Constraint],
     tracks: u32,
-    placed: &[Trunk],
-    left: &[Trunk],
+    placed: &[PlacedWire],
+    left: &[Wire],
 ) -> bool
     ensures { result ≡ is_open constraints.now tracks placed.now left.now }
 {

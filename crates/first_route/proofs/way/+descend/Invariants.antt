@@ -1,7 +1,7 @@
 use Rattle.std.proofs.Common.{◌≡◌, ◌≤◌, length}
 use Rattle.first_route.proofs.Steps.{FailBelow}
 use Rattle.first_route.proofs.Tries.{AreTried}
-use Rattle.first_route.proofs.descent.+descend.Given as goal
+use Rattle.first_route.proofs.way.+descend.Given as goal
 
 abbrev pub decreases-descend : goal.decreases-descend
 decreases-descend l = length l.left.now
