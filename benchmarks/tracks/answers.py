@@ -4,6 +4,7 @@ import pathlib
 import resource
 import signal
 import subprocess
+from collections import namedtuple
 
 from lowest_row import channel, lines_of, needed_height, rows
 
@@ -12,6 +13,10 @@ UNIT_NM, METAL1 = 150, 49
 LAYER, XY = 0x0D02, 0x1003                                         # records of a GDSII file
 SECONDS = 20                                                       # of a processor, for one call
 MOST_READ = 6                                                      # tracks; the plain reader tries all orders of them
+# words: those of `make` that choose how nets go; head: a certificate's first line; fewest: what its check reports
+Course = namedtuple("Course", "words head fewest")
+STRAIGHT = Course([], certificate.HEADS[0], "fewest")
+TURNING = Course(["--dogleg"], certificate.HEADS[1], "fewest-dogleg")
 
 
 class Differs(Exception):
@@ -68,8 +73,8 @@ def rectangles(data, layer):
 class Made:
     """A cell in a folder, the program, and what the program has to find."""
 
-    def __init__(self, program, room, cell, found):
-        self.program, self.room, self.cell, self.found = str(pathlib.Path(program).resolve()), room, cell, found
+    def __init__(self, program, room, cell, found, course):
+        self.program, self.room, self.cell, self.found, self.course = str(pathlib.Path(program).resolve()), room, cell, found, course
         self.first = next(rows(cell, found.least))
         self.accepted = set()                                      # certificates that both readers accept
 
@@ -98,14 +103,14 @@ class Made:
         """The certificate of tracks is there where it says something, and the program and the plain reader accept it."""
         same("whether there is a certificate of tracks", "ctrack" in files, fewest > 0)
         if fewest and files["ctrack"] not in self.accepted:
-            said = ["status 0 ok", "cell x", f"gaps {gaps}", f"fewest {fewest}"]
+            said = ["status 0 ok", "cell x", f"gaps {gaps}", f"{self.course.fewest} {fewest}"]
             same("check .. --low", self.run("check", tech, "x.sp", "x", "low.ctrack", "--low"), said)
             self.accepted.add(files["ctrack"])
             if fewest <= MOST_READ or b"\nlemma" not in files["ctrack"]:
                 self.read_again(files["ctrack"], gaps, fewest)
         if fewest:
             head = files["ctrack"].decode("latin-1").splitlines()[:4]
-            same("the certificate's head", head, ["cellgen-tracks 1", "cell x", f"gaps {gaps}", f"tracks {fewest}"])
+            same("the certificate's head", head, [self.course.head, "cell x", f"gaps {gaps}", f"tracks {fewest}"])
 
     def read_again(self, data, gaps, fewest):
         """By the plain reader. Lemmas on cycles are there exactly where rows with fewer gaps are, and speak of all these."""
@@ -141,8 +146,8 @@ class Made:
         it = channel(cell, found.row)
         xs = lines_of(it, found.routing)
         base = 44 + max([10, *(cell.width(1, column.n) for column in found.row if column.n)])
-        trunks = {(xs[it.spans[net][0]] - 4, base + 16 * track - 4, xs[it.spans[net][1]] + 4, base + 16 * track + 4)
-                  for net, track in found.routing.items()}
+        trunks = {(xs[one.left] - 4, base + 16 * track - 4, xs[one.right] + 4, base + 16 * track + 4)
+                  for one, track in found.routing.items()}
         same("trunks that are not drawn", trunks - rectangles(files["gds"], METAL1), set())
         self.extracted(tech, words)
 
@@ -184,6 +189,22 @@ def unwired(made, tech, words):
     made.evidence(tech, files, words, made.first)
     made.tracks_proved(tech, files, made.cell.columns - 1, len(made.cell.nets))
     same("the files", {**files, "ctrack": b""}, {**old, "ctrack": b""})
+
+
+def ringed(made, tech, words):
+    """Nets may turn, and no row is known that can be wired: a cycle of the first least row, and what is proved of all."""
+    found = made.found
+    said, files = made.make(tech, "low", *words)
+    plain, old = made.make(tech, "make", *(word for word in words if word != "--low"))
+    same("the report", [said[0], *said[2:], plain[0]], ["status 6 unfinished", *plain[1:], "status 5 cycle"])
+    made.evidence(tech, files, words, made.first)
+    proved = int(files["ctrack"].decode("latin-1").splitlines()[3].split()[1]) if "ctrack" in files else 0
+    same("the line of the tracks", said[1], f"fewest {proved}")
+    if found.row is not None and proved > found.tracks:
+        raise Differs(f"{proved} tracks are proved, and {found.tracks} are the fewest")
+    made.tracks_proved(tech, files, found.gaps, proved)
+    same("the files", {**files, "ctrack": b""}, {**old, "ctrack": b""})
+    return f"a cycle in the first least row, no row known that can be wired, {'some' if proved else 'no'} tracks proved"
 
 
 def too_tall(made, tech, words, height):
@@ -235,12 +256,12 @@ def within(made, budget, words):
     if plain[0] == "status 6 unfinished":
         same("the report", (said, files), (plain, old))
         return "search for the gaps open"
-    if said[0] == "status 5 cycle":
+    if said[0] == "status 5 cycle" and made.course == STRAIGHT:
         same("a row that is wired", made.found.row, None)
         unwired(made, tech, words)
         return "budget enough for a cycle in each row"
     if said[0] == "status 6 unfinished":
-        return gaps_spent(made, tech, words, said, files)
+        return ringed(made, tech, words) if made.course == TURNING else gaps_spent(made, tech, words, said, files)
     same("the status", said[0], "status 0 ok")
     same("no row that is wired", made.found.row is None, False)
     wanted = expected(made.cell, "x", made.found, 0)
@@ -253,15 +274,19 @@ def within(made, budget, words):
 def differences(made, draw):
     """Makes the cell in several ways. Yields what the answers are; raises Differs where one is not as expected."""
     def words():
-        return [*draw.choice((["--taps"], [])), "--low", *draw.choice((["--trails"], []))]
-    if made.found.row is None:
+        return [*made.course.words, *draw.choice((["--taps"], [])), "--low", *draw.choice((["--trails"], []))]
+    if made.found.row is None and made.course == TURNING:
+        yield ringed(made, "-", words())
+    elif made.found.row is None:
         unwired(made, "-", words())
         yield "no row wired"
     else:
         asked = words()
         whole(made, "-", asked)
         yield f"made on {made.found.tracks} tracks"
-        yield from (f"made with {word}" for word in asked if word != "--low")
+        yield from (f"made with {word}" for word in asked if word not in ("--low", "--dogleg"))
+        if made.found.wired != made.first and made.course == TURNING:
+            yield "made, and the first least row has a cycle"
         if made.found.gaps > made.found.least:
             yield f"no least row wired, made with {made.found.gaps - made.found.least} gaps more"
         needed = needed_height(made.cell, made.found.row, made.found.tracks)

@@ -8,9 +8,11 @@ import itertools
 from collections import Counter, namedtuple
 
 Column = namedtuple("Column", "gate p n")
-Channel = namedtuple("Channel", "units wide spans above")          # spans: net to its first and last line; above: pairs
+# nodes: line, side and net of each node place; spans: net to its first and last line; above: pairs of nets
+Channel = namedtuple("Channel", "units wide nodes spans above")
+Stretch = namedtuple("Stretch", "left right net")                  # a trunk, or a piece of one
 # least: the fewest gaps of all rows; gaps: of those that can be wired; rows: how many have no more; wired: the first of
-# these that can be wired; routing: net to its track
+# these that can be wired; routing: stretches to their tracks
 Lowest = namedtuple("Lowest", "least gaps rows wired row tracks routing")
 
 
@@ -99,7 +101,7 @@ def channel(cell, row):
     above = {(p, n) for line, side, p in nodes if side == 0 for other, at, n in nodes
              if at == 1 and other == line and p != n and p in spans and n in spans}
     wide = {line for line, _, net in nodes if net in cell.rails or net in spans}
-    return Channel(units, wide, spans, above)
+    return Channel(units, wide, nodes, spans, above)
 
 
 def first_routing(spans, above, tracks, given=()):
@@ -121,9 +123,9 @@ def first_routing(spans, above, tracks, given=()):
     return None
 
 
-def has_cycle(spans, above):
+def has_cycle(nets, above):
     """Whether each of some nets is above another one of them."""
-    nets = set(spans)
+    nets = set(nets)
     while kept := {net for net in nets if any((net, other) in above for other in nets)}:
         if kept == nets:
             return True
@@ -163,7 +165,8 @@ def lowest(cell):
         for row, it, crossed in wired:
             routing = first_routing(it.spans, it.above, tracks) if crossed <= tracks else None
             if routing is not None:
-                return Lowest(least, gaps, count, wired[0][0], row, tracks, routing)
+                trunks = {Stretch(*it.spans[net], net): track for net, track in routing.items()}
+                return Lowest(least, gaps, count, wired[0][0], row, tracks, trunks)
     return Lowest(least, gaps, count, None, None, None, None)
 
 
@@ -174,10 +177,9 @@ def lines_of(it, routing):
         for line in (2 * at, 2 * at + 1):
             node = line + line % 2
             asked[line, line + 1] = 11 if unit == "column" and node in it.wide else 8
-    for track in set(routing.values()):
-        spans = sorted(it.spans[net] for net, at in routing.items() if at == track)
-        for (_, right), (left, _) in zip(spans, spans[1:]):
-            asked[right, left] = max(14, asked.get((right, left), 0))
+    for (one, at), (other, track) in itertools.product(routing.items(), repeat=2):
+        if at == track and one.right < other.left:
+            asked[one.right, other.left] = max(14, asked.get((one.right, other.left), 0))
     xs = [8]
     for line in range(1, 2 * len(it.units) + 1):
         xs.append(max([0, *(xs[before] + least for (before, after), least in asked.items() if after == line)]))

@@ -67,6 +67,17 @@ def of_crossed(draw, most):
     return lines[:most]
 
 
+def of_inner(draw, most):
+    """A P and an N transistor on each gate net, which is hardly a pin: some of these cells take fewer tracks where nets may
+    turn."""
+    nets, lines = ["m", "k", "t", "z", "x"][:draw.randint(3, 5)], []
+    rails = draw.randint(0, 3)
+    for on in ("e", "f", "g", "h")[:draw.randint(3, most // 2)]:
+        lines += [(row, draw.choice(nets + [rail] * rails), on, draw.choice(nets + [rail] * rails))
+                  for row, rail in (("p", "vdd"), ("n", "gnd"))]
+    return lines
+
+
 def spice(draw, most=8, makers=(of_gates, of_gates, of_nets, of_pairs)):
     """The text of a cell `x` with at most that many transistors."""
     lines = draw.choice(makers)(draw, most)

@@ -171,26 +171,28 @@ def ways_at(cell, limit, before, line, later, tracks):
             yield way
 
 
-def passes(cell, limit, before, lines, later, tracks):
-    """The tracks of the open nets after some lines, where `later` are the nets with a place after them."""
+def passes(cell, limit, before, lines, later, tracks, rule):
+    """The tracks of the open nets after some lines, where `later` are the nets with a place after them. The rule gives the
+    tracks with which nets go on from a line: `ways_at`, or that of `turning` where nets may turn."""
     if not lines:
         yield {net: track for net, track in tracks.items() if net in before & later}
         return
     line, rest = lines[0], lines[1:]
     ahead = later.union(*map(nets_at, rest))
-    for way in ways_at(cell, limit, before, line, ahead, tracks):
+    for way in rule(cell, limit, before, line, ahead, tracks):
         beyond = before | nets_at(line)
-        yield from passes(cell, limit, beyond, rest, later, {net: track for net, track in way.items() if net in beyond & ahead})
+        yield from passes(cell, limit, beyond, rest, later, {net: track for net, track in way.items() if net in beyond & ahead}, rule)
 
 
-def ways_after(cell, limit, state, tracks, column):
+def ways_after(cell, limit, state, tracks, column, rule=ways_at):
     """The tracks of the open nets after a column."""
-    return passes(cell, limit, cell.behind(state), lines_to(state, column), set(cell.touched(after(state, column))), dict(tracks))
+    later = set(cell.touched(after(state, column)))
+    return passes(cell, limit, cell.behind(state), lines_to(state, column), later, dict(tracks), rule)
 
 
-def ways_to_end(cell, limit, state, tracks):
+def ways_to_end(cell, limit, state, tracks, rule=ways_at):
     """The same through the last line, where no finger is left."""
-    return passes(cell, limit, cell.behind(state), [Line(state.p_end, state.n_end, None)], set(), dict(tracks))
+    return passes(cell, limit, cell.behind(state), [Line(state.p_end, state.n_end, None)], set(), dict(tracks), rule)
 
 
 def covers(lemma, state, gaps, way):
@@ -205,7 +207,7 @@ def is_refuted(cell, earlier, state, gaps, way):
     return any(covers(lemma, state, gaps, way) for lemma in earlier.get(state, ()))
 
 
-def is_justified(cell, limit, earlier, lemma):
+def is_justified(cell, limit, earlier, lemma, rule=ways_at):
     """Whether a lemma follows: by the bound of a row, or since each column leads to earlier lemmas."""
     if not is_valid(cell, lemma):
         return False
@@ -213,21 +215,22 @@ def is_justified(cell, limit, earlier, lemma):
     if cell.bound(state) > lemma.gaps:
         return True
     if not any(state.p + state.n):
-        return not any(True for _ in ways_to_end(cell, limit, state, lemma.tracks))
+        return not any(True for _ in ways_to_end(cell, limit, state, lemma.tracks, rule))
     for column in cell.columns(state):
         left, here = lemma.gaps - cost(state, column), after(state, column)
         if left < 0 or cell.bound(here) > left:
             continue
-        if not all(is_refuted(cell, earlier, here, left, way) for way in ways_after(cell, limit, state, lemma.tracks, column)):
+        ways = ways_after(cell, limit, state, lemma.tracks, column, rule)
+        if not all(is_refuted(cell, earlier, here, left, way) for way in ways):
             return False
     return True
 
 
-def first_wrong(cell, limit, gaps, lemmas):
+def first_wrong(cell, limit, gaps, lemmas, rule=ways_at):
     """The place of the first lemma that does not follow from those before it, or whether one speaks of all rows."""
     earlier = {}
     for at, lemma in enumerate(lemmas):
-        if not is_justified(cell, limit, earlier, lemma):
+        if not is_justified(cell, limit, earlier, lemma, rule):
             return at, False
         earlier.setdefault(lemma.state, []).append(lemma)
     return None, is_refuted(cell, earlier, cell.start, gaps, {})
@@ -236,8 +239,8 @@ def first_wrong(cell, limit, gaps, lemmas):
 class Search:
     """Looks for a row with so few gaps and tracks below a limit, and keeps a lemma for each state that has none."""
 
-    def __init__(self, cell, limit):
-        self.cell, self.limit, self.lemmas, self.known = cell, limit, [], {}
+    def __init__(self, cell, limit, rule=ways_at):
+        self.cell, self.limit, self.rule, self.lemmas, self.known = cell, limit, rule, [], {}
 
     def finds(self, state, gaps, tracks):
         key = state, tuple(sorted(tracks.items()))
@@ -251,12 +254,12 @@ class Search:
 
     def goes_on(self, state, gaps, tracks):
         if not any(state.p + state.n):
-            return any(True for _ in ways_to_end(self.cell, self.limit, state, tracks))
+            return any(True for _ in ways_to_end(self.cell, self.limit, state, tracks, self.rule))
         for column in self.cell.columns(state):
             left, here = gaps - cost(state, column), after(state, column)
             if left < 0 or self.cell.bound(here) > left:
                 continue
-            for way in ways_after(self.cell, self.limit, state, tracks, column):
+            for way in ways_after(self.cell, self.limit, state, tracks, column, self.rule):
                 if self.finds(here, left, way):
                     return True
         return False
@@ -278,11 +281,11 @@ def fewest_gaps(cell):
     return next(gaps for gaps in itertools.count() if has(cell.start, gaps))
 
 
-def fewest_tracks(cell, gaps, most):
+def fewest_tracks(cell, gaps, most, rule=ways_at):
     """The fewest tracks of the rows with N gaps, and the lemmas that fewer are not enough; no more than `most`."""
     lemmas = []
     for tracks in range(most + 1):
-        search = Search(cell, tracks)
+        search = Search(cell, tracks, rule)
         if search.finds(cell.start, gaps, {}):
             return tracks, lemmas
         lemmas = search.lemmas
