@@ -1,0 +1,3 @@
+-- What contracts of public calls cite, and what these definitions use.
+pub mod First
+pub mod Tries
