@@ -61,12 +61,12 @@ bare_is_all s gaps lemmas = (
 )
 
 -- else earlier lemmas must speak of it
-pub known_fail : (ways : LineWays) (value : Row → State → Kinds → ℕ) (pins : Pins) (limit : ℕ) (k : Kinds) (earlier : List TrackLemma) (lemma : TrackLemma) (step : Step) (left : ℕ) (s : State) (lists : List (List NetTrack)) (known : Bool) → s ≡ state_after k lemma.state step → lists ≡ goes_ways_by ways pins limit k lemma.state lemma.tracks step → (NeedsMore value k s left → ⊥) → IsTrue known ↔ All (λ way. Any (CoversListed s left way) earlier) lists → IsTrue known ↔ WaysFailBy ways value pins limit k earlier lemma step left
-known_fail ways value pins limit k earlier lemma step left s lists known after are few decides = (
+pub known_fail : (ways : LineWays) (value : Row → State → Kinds → ℕ) (pins : Pins) (limit : ℕ) (k : Kinds) (earlier : List TrackLemma) (lemma : TrackLemma) (step : Step) (left : ℕ) (s : State) (known : Bool) → s ≡ state_after k lemma.state step → (NeedsMore value k s left → ⊥) → IsTrue known ↔ All (λ way. Any (CoversListed s left way) earlier) (goes_ways_by ways pins limit k lemma.state lemma.tracks step) → IsTrue known ↔ WaysFailBy ways value pins limit k earlier lemma step left
+known_fail ways value pins limit k earlier lemma step left s known after few decides = (
   λ yes. all_from_contains (IsRefutedListed value k earlier (state_after k lemma.state step) left) (goes_ways_by ways pins limit k lemma.state lemma.tracks step) (λ way there.
-      inr (subst (λ z. Any (CoversListed z left way) earlier) after (All-contains (λ way. Any (CoversListed s left way) earlier) lists way (decides.0 yes) (subst (λ ws. Contains ws way) (sym are) there)))),
-  λ fail. decides.1 (all_from_contains (λ way. Any (CoversListed s left way) earlier) lists (λ way there.
-      refuted_known value k earlier s left way few (subst (λ z. IsRefutedListed value k earlier z left way) (sym after) (All-contains (IsRefutedListed value k earlier (state_after k lemma.state step) left) (goes_ways_by ways pins limit k lemma.state lemma.tracks step) way fail (subst (λ ws. Contains ws way) are there))))),
+      inr (subst (λ z. Any (CoversListed z left way) earlier) after (All-contains (λ way. Any (CoversListed s left way) earlier) (goes_ways_by ways pins limit k lemma.state lemma.tracks step) way (decides.0 yes) there))),
+  λ fail. decides.1 (all_from_contains (λ way. Any (CoversListed s left way) earlier) (goes_ways_by ways pins limit k lemma.state lemma.tracks step) (λ way there.
+      refuted_known value k earlier s left way few (subst (λ z. IsRefutedListed value k earlier z left way) (sym after) (All-contains (IsRefutedListed value k earlier (state_after k lemma.state step) left) (goes_ways_by ways pins limit k lemma.state lemma.tracks step) way fail there)))),
 )
 
 pub no_ways : {X : Type 0} (xs : List X) (n : ℕ) → n ≡ length xs → IsTrue (n == 0) ↔ (xs ≡ [])

@@ -21,15 +21,16 @@ ghost use Rattle.track_check.specs.Refusal.{IsFirstUnjustifiedBy, Refuses, Refus
 ghost use Rattle.track_check.specs.Touches.{AreTouches};
 
 use crate::{NotedLemmas, TrackGrounds, TracksRefused, is_justified, touches};
+use all_ways::Splitting;
 use cell_num::{NoMemory, Pins};
 use row_cycles::Places;
 use row_needs::GapBound;
 use row_state::{Kinds, Numbered, candidates, code, start};
 use std::alloc::Global;
-use track_ways::{Straight, TrackLemma, TrackLemmas, TrackRule};
+use track_ways::{Straight, TrackLemma, TrackLemmas};
 
 // Whether the lemma at the place is justified by those before it.
-fn is_justified_at<R: TrackRule, B: GapBound>(
+fn is_justified_at<R: Splitting, B: GapBound>(
     alloc: Global,
     grounds: &TrackGrounds<B>,
     lemmas: &[TrackLemma],
@@ -72,7 +73,7 @@ fn note(
 }
 
 // The place of the first lemma that is not justified by those before it. Where there is none, all lemmas are noted.
-fn first_unjustified<R: TrackRule, B: GapBound>(
+fn first_unjustified<R: Splitting, B: GapBound>(
     alloc: Global,
     grounds: &TrackGrounds<B>,
     lemmas: &[TrackLemma],
@@ -98,7 +99,7 @@ fn first_unjustified<R: TrackRule, B: GapBound>(
 /// Checks a certificate that no completion of the start state with at most N gaps has tracks below the limit, by the
 /// rule: each lemma is justified by those before it, and one is about the start state, the gaps and any tracks. Else
 /// the first cause to refuse it.
-pub fn check_tracks_by<R: TrackRule, B: GapBound>(
+pub fn check_tracks_by<R: Splitting, B: GapBound>(
     alloc: Global,
     bound: &B,
     pins: &Pins,

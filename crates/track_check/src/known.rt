@@ -7,7 +7,7 @@ ghost use Rattle.track_check.specs.Steps.{is_track};
 
 use row_cycles::Places;
 use row_state::{Numbered, State};
-use track_ways::{NetTrack, NetTracks, TrackLemma};
+use track_ways::{NetTrack, TrackLemma};
 
 fn is_same(a: &State, b: &State) -> bool
     ensures { IsTrue result ↔ (a.now ≡ b.now) }
@@ -85,18 +85,5 @@ impl NotedLemmas<'_> {
             }
         }
         false
-    }
-
-    // Whether one of them is about the state and that many gaps, for each of the ways.
-    pub(crate) fn cover_all(&self, at: &Numbered, gaps: u32, ways: &[NetTracks]) -> bool
-        requires { AreNotedAt self.now.lemmas.now self.now.places.now at.now }
-        ensures { IsTrue result ↔ All (λ way. Any (CoversListed at.now.state gaps way) self.now.lemmas.now) ways.now }
-    {
-        for way in ways {
-            if !self.covers(at, gaps, way.as_slice()) {
-                return false;
-            }
-        }
-        true
     }
 }

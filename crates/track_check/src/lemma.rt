@@ -13,12 +13,13 @@ ghost use Rattle.track_check.specs.Touches.{AreTouches};
 use crate::steps::steps_fail;
 use crate::valid::is_valid;
 use crate::{NotedLemmas, state_nets, touches};
+use all_ways::{Splitting, none_at_end};
 use cell_num::{NoMemory, Pins};
 use row_needs::GapBound;
 use row_state::{Candidates, Kinds, Numbered, has_fingers, is_state};
 use row_trails::NETS;
 use std::alloc::Global;
-use track_ways::{TrackLemma, TrackRule, TrackWays, end_uncrowded, ways_at_end};
+use track_ways::{TrackLemma, end_uncrowded};
 
 /// What lemmas on tracks may rest on beside earlier ones: the cell, the number of tracks, all columns that may ever
 /// come next, a bound on gaps, and how often the start state touches each net.
@@ -33,15 +34,8 @@ pub struct TrackGrounds<'a, B> {
     pub all: &'a [u32; NETS],
 }
 
-#[tactic(auto, using(crate::proofs::Failing::no_ways))]
-fn is_empty(ways: &TrackWays) -> bool
-    ensures { IsTrue result ↔ (ways.now ≡ []) }
-{
-    ways.len() == 0
-}
-
 // Whether a finger is left, or no tracks go through the last line. None go through a crowded one.
-fn end_fails<R: TrackRule, B: GapBound>(
+fn end_fails<R: Splitting, B: GapBound>(
     alloc: Global,
     grounds: &TrackGrounds<B>,
     lemma: &TrackLemma,
@@ -61,12 +55,12 @@ fn end_fails<R: TrackRule, B: GapBound>(
     if !end_uncrowded(alloc, pins, limit, kinds, state, before)? {
         return Ok(true);
     }
-    let ways = ways_at_end::<R>(alloc, pins, limit, kinds, state, before, &lemma.tracks)?;
-    Ok(is_empty(&ways))
+    let none = none_at_end::<R>(alloc, pins, limit, kinds, state, before, &lemma.tracks)?;
+    Ok(none)
 }
 
 // Whether each next column leaves the lemma justified, and the end of a row does.
-fn branches<R: TrackRule, B: GapBound>(
+fn branches<R: Splitting, B: GapBound>(
     alloc: Global,
     grounds: &TrackGrounds<B>,
     earlier: &NotedLemmas,
@@ -90,7 +84,7 @@ fn branches<R: TrackRule, B: GapBound>(
 }
 
 // Whether the lemma of a valid state is justified.
-fn is_justified_at<R: TrackRule, B: GapBound>(
+fn is_justified_at<R: Splitting, B: GapBound>(
     alloc: Global,
     grounds: &TrackGrounds<B>,
     earlier: &NotedLemmas,
@@ -119,7 +113,7 @@ fn is_justified_at<R: TrackRule, B: GapBound>(
 }
 
 /// Whether the lemma is justified by the earlier ones, by the rule.
-pub fn is_justified<R: TrackRule, B: GapBound>(
+pub fn is_justified<R: Splitting, B: GapBound>(
     alloc: Global,
     grounds: &TrackGrounds<B>,
     earlier: &NotedLemmas,

@@ -6,6 +6,7 @@ mod accept;
 mod certify;
 pub mod check;
 pub mod counts;
+mod covered;
 pub mod known;
 pub mod lemma;
 pub mod nets;

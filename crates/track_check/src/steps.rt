@@ -8,18 +8,20 @@ ghost use Rattle.track_ways.specs.Tables.{marked};
 ghost use Rattle.track_check.specs.Noted.{AreNoted};
 ghost use Rattle.track_check.specs.Steps.{StepFailsListedBy, WaysFailBy};
 
+use crate::covered::Covered;
 use crate::{NotedLemmas, TrackGrounds, nets_ahead, touches};
+use all_ways::{Splitting, all_after};
 use cell_num::NoMemory;
 use row_cycles::left_after;
 use row_needs::GapBound;
 use row_state::{Candidate, Numbered};
 use row_trails::NETS;
 use std::alloc::Global;
-use track_ways::{TrackLemma, TrackRule, step_uncrowded, ways_after};
+use track_ways::{TrackLemma, step_uncrowded};
 
-// Whether all listed tracks after the column are refuted, with that many gaps left. They are where a lemma is about
-// the state and of any tracks, and where a line to the column is crowded.
-fn ways_fail<R: TrackRule, B: GapBound>(
+// Whether all tracks after the column are refuted, with that many gaps left. They are where a lemma is about the state
+// and of any tracks, and where a line to the column is crowded. Else each is asked for in turn.
+fn ways_fail<R: Splitting, B: GapBound>(
     alloc: Global,
     grounds: &TrackGrounds<B>,
     earlier: &NotedLemmas,
@@ -54,7 +56,12 @@ fn ways_fail<R: TrackRule, B: GapBound>(
     if !step_uncrowded(alloc, pins, limit, kinds, state, before, &next.step, &ahead)? {
         return Ok(true);
     }
-    let ways = ways_after::<R>(
+    let test = Covered {
+        earlier: *earlier,
+        at: &after,
+        gaps: left,
+    };
+    let all = all_after::<R, Covered>(
         alloc,
         pins,
         limit,
@@ -64,12 +71,13 @@ fn ways_fail<R: TrackRule, B: GapBound>(
         &next.step,
         &ahead,
         &lemma.tracks,
+        &test,
     )?;
-    Ok(earlier.cover_all(&after, left, ways.as_slice()))
+    Ok(all)
 }
 
 // Whether the column leaves the lemma justified.
-fn step_fails<R: TrackRule, B: GapBound>(
+fn step_fails<R: Splitting, B: GapBound>(
     alloc: Global,
     grounds: &TrackGrounds<B>,
     earlier: &NotedLemmas,
@@ -95,7 +103,7 @@ fn step_fails<R: TrackRule, B: GapBound>(
 
 // Whether each next column leaves the lemma justified.
 #[tactic(auto, using(row_cycles::proofs::Left::candidate_is))]
-pub(crate) fn steps_fail<R: TrackRule, B: GapBound>(
+pub(crate) fn steps_fail<R: Splitting, B: GapBound>(
     alloc: Global,
     grounds: &TrackGrounds<B>,
     earlier: &NotedLemmas,

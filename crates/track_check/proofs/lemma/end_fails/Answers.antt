@@ -12,6 +12,6 @@ returns-then-not-branch g c = yes_from (λ none. none_at_end g.met.R.TrackRule.i
 
 pub returns : goal.returns
 returns g c = (
-  λ e none. sym c.in_ok-ways.ensures ∙ c.is_empty.ensures.0 e,
-  λ h. c.is_empty.ensures.1 (c.in_ok-ways.ensures ∙ h (λ has. both_ways c.has_fingers.result c.if-has_fingers.false ((c.has_fingers.ensures c.args.grounds.now.kinds.now c.requires.valid).1 has))),
+  λ e none. c.in_ok-none.ensures.0 e,
+  λ h. c.in_ok-none.ensures.1 (h (λ has. both_ways c.has_fingers.result c.if-has_fingers.false ((c.has_fingers.ensures c.args.grounds.now.kinds.now c.requires.valid).1 has))),
 )

@@ -37,19 +37,17 @@ step_uncrowded-requires g c =
 pub returns-then-not-branch : goal.returns-then-not-branch
 returns-then-not-branch g c = yes_from (crowded_fail g.R.TrackRule.ways (g.B.GapBound.value c.args.grounds.now.bound.now) c.args.grounds.now.pins.now c.args.grounds.now.limit c.args.grounds.now.kinds.now c.args.earlier.now.lemmas.now c.args.lemma.now c.args.next.now.step c.args.left (none_through g.met.R.TrackRule.is_rule c.args.grounds.now.pins.now c.args.grounds.now.limit c.args.grounds.now.kinds.now c.args.lemma.now.state c.args.next.now.step c.args.lemma.now.tracks c.show_limits.ensures (subst (IsState c.args.grounds.now.kinds.now) c.requires.state c.requires.numbered.valid) (sym c.in_ok-step_uncrowded.ensures.is ∙ c.if-not-branch.true)))
 
-pub ways_after-requires : goal.ways_after-requires
-ways_after-requires g c =
+pub all_after-requires : goal.all_after-requires
+all_after-requires g c =
     let after : c.in_ok-after.after.state ≡ state_after c.args.grounds.now.kinds.now c.args.lemma.now.state c.args.next.now.step = c.in_ok-after.ensures.state ∙ ap (λ s. state_after c.args.grounds.now.kinds.now s c.args.next.now.step) c.requires.state in
     record {
+      ready = noted_here state_of c.args.grounds.now.kinds.now c.args.earlier.now.lemmas.now c.args.earlier.now.places.now c.in_ok-after.after c.in_ok-after.ensures.numbered.code c.requires.noted;
       state = subst (IsState c.args.grounds.now.kinds.now) c.requires.state c.requires.numbered.valid;
       before = c.requires.before;
       behind = c.nets_ahead-ahead.ensures c.args.grounds.now.kinds.now c.in_ok-after.after.state c.touches-here.ensures.touches ∙ ap (is_still_ahead c.args.grounds.now.kinds.now) after;
     }
 
-pub cover_all-requires : goal.cover_all-requires
-cover_all-requires g c = noted_here state_of c.args.grounds.now.kinds.now c.args.earlier.now.lemmas.now c.args.earlier.now.places.now c.in_ok-after.after c.in_ok-after.ensures.numbered.code c.requires.noted
-
 pub returns : goal.returns
 returns g c =
     let after : c.in_ok-after.after.state ≡ state_after c.args.grounds.now.kinds.now c.args.lemma.now.state c.args.next.now.step = c.in_ok-after.ensures.state ∙ ap (λ s. state_after c.args.grounds.now.kinds.now s c.args.next.now.step) c.requires.state in
-    known_fail g.R.TrackRule.ways (g.B.GapBound.value c.args.grounds.now.bound.now) c.args.grounds.now.pins.now c.args.grounds.now.limit c.args.grounds.now.kinds.now c.args.earlier.now.lemmas.now c.args.lemma.now c.args.next.now.step c.args.left c.in_ok-after.after.state c.as_slice.result.now c.cover_all.result after (c.as_slice.ensures ∙ c.in_ok-ways.ensures.ways) (λ more. both_ways c.needs_more.result c.if-needs_more.false (c.needs_more.ensures.1 more)) c.cover_all.ensures
+    known_fail g.R.TrackRule.ways (g.B.GapBound.value c.args.grounds.now.bound.now) c.args.grounds.now.pins.now c.args.grounds.now.limit c.args.grounds.now.kinds.now c.args.earlier.now.lemmas.now c.args.lemma.now c.args.next.now.step c.args.left c.in_ok-after.after.state c.in_ok-all.all after (λ more. both_ways c.needs_more.result c.if-needs_more.false (c.needs_more.ensures.1 more)) c.in_ok-all.ensures
