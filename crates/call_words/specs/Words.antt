@@ -11,9 +11,6 @@ use Rattle.call_words.specs.Asked.{CellAsked, RowAsked, are_row_cells, is_top, t
 use Rattle.call_words.specs.Options.{choice_of, evidence_of, style_of, taps_of, trails_of, wiring_of}
 use Rattle.cell_inputs.specs.declared.style.LeastRow.{LeastRow}
 use Rattle.cell_inputs.specs.declared.style.Style.{Style}
-use Rattle.cell_inputs.specs.declared.style.Taps.{Taps}
-use Rattle.cell_inputs.specs.declared.style.Wiring.{Wiring}
-use Rattle.cell_inputs.specs.declared.style.Wiring.TheVariants.{Straight, Doglegs}
 use Rattle.scmos_rules.specs.declared.rules.Deck.{Deck}
 use Rattle.scmos_rules.specs.declared.rules.Deck.TheVariants as deck
 
@@ -21,7 +18,7 @@ use Rattle.scmos_rules.specs.declared.rules.Deck.TheVariants as deck
 --   plan TECH SPICE CELL, which may end with `--trails` for another kind of evidence
 --   make TECH SPICE CELL OUT, which may end with `--dogleg`, `--taps` and `--trails`, and after them with `--from FILE`
 --     for the row that a file lists
---   make TECH SPICE CELL OUT [--taps] --low [--trails]: the lowest of the least rows
+--   make TECH SPICE CELL OUT [--dogleg] [--taps] --low [--trails]: the lowest of the least rows
 --   check TECH SPICE CELL LOG, or with `--trails` or `--low` after the file's name: a log, a certificate by trails, a
 --     certificate of tracks
 --   extract TECH GDS CELL, which may end with `--taps` for the deck of cells with taps; no technology is the plain one
@@ -32,7 +29,7 @@ pub data Form : Type 0 where
   Plan : (cell : CellAsked) (evidence : Evidence) → Form
   Make : (cell : CellAsked) (out : List ℕ) (style : Style) (evidence : Evidence) → Form
   MakeFrom : (cell : CellAsked) (out : List ℕ) (style : Style) (file : List ℕ) (evidence : Evidence) → Form
-  MakeLow : (cell : CellAsked) (out : List ℕ) (taps : Taps) (evidence : Evidence) → Form
+  MakeLow : (cell : CellAsked) (out : List ℕ) (style : Style) (evidence : Evidence) → Form
   Check : (cell : CellAsked) (file : List ℕ) (evidence : Evidence) → Form
   CheckLow : (cell : CellAsked) (file : List ℕ) → Form
   Extract : (tech : Option (List ℕ)) (gds cell : List ℕ) (rules : Deck) → Form
@@ -45,7 +42,7 @@ abbrev pub shown : Read → Form
 shown (read.Plan cell evidence) = Plan cell evidence
 shown (read.Make cell out style evidence) = Make cell out.now style evidence
 shown (read.MakeFrom cell out style file evidence) = MakeFrom cell out.now style file.now evidence
-shown (read.MakeLow cell out taps evidence) = MakeLow cell out.now taps evidence
+shown (read.MakeLow cell out style evidence) = MakeLow cell out.now style evidence
 shown (read.Check cell file evidence) = Check cell file.now evidence
 shown (read.CheckLow cell file) = CheckLow cell file.now
 shown (read.Extract tech gds cell rules) = Extract (option_map (λ name. name.now) tech) gds.now cell.now rules
@@ -71,7 +68,7 @@ usage_text =
     ++ codes "check TECH SPICE CELL FILE --trails\n"
     ++ codes "make TECH SPICE CELL OUT [--dogleg] [--taps] --trails\n"
     ++ codes "make TECH SPICE CELL OUT [--dogleg] [--taps] [--trails] --from FILE\n"
-    ++ codes "make TECH SPICE CELL OUT [--taps] --low [--trails]\n"
+    ++ codes "make TECH SPICE CELL OUT [--dogleg] [--taps] --low [--trails]\n"
     ++ codes "check TECH SPICE CELL FILE --low\n"
     ++ codes "row TECH SPICE OUT TOP CELL CELL .. --low\n"
 
@@ -125,16 +122,15 @@ abbrev pub evident_of : Style → List (List ℕ) → List ℕ → List ℕ → 
 evident_of style more tech spice cell out =
     drawing_of style (trails_of more).0 (trails_of more).1 tech spice cell out
 
--- the drawing of the lowest of the least rows, whose wiring is straight
-abbrev pub making_low_of : Wiring → Taps → Evidence → List ℕ → List ℕ → List ℕ → List ℕ → Option Form
-making_low_of Straight taps evidence tech spice cell out =
-    if is_file out then option_map (λ asked. MakeLow asked out taps evidence) (cell_of tech spice cell) else None
-making_low_of Doglegs taps evidence tech spice cell out = None
+-- the drawing of the lowest of the least rows in a style, with its evidence, in files whose names begin so
+abbrev pub making_low_of : Style → Evidence → List ℕ → List ℕ → List ℕ → List ℕ → Option Form
+making_low_of style evidence tech spice cell out =
+    if is_file out then option_map (λ asked. MakeLow asked out style evidence) (cell_of tech spice cell) else None
 
 -- the same by the words after `--low`: the evidence of its gaps
 abbrev pub low_of : Style → List (List ℕ) → List ℕ → List ℕ → List ℕ → List ℕ → Option Form
 low_of style more tech spice cell out =
-    option_and_then (λ evidence. making_low_of style.wiring style.taps evidence tech spice cell out) (evidence_of more)
+    option_and_then (λ evidence. making_low_of style evidence tech spice cell out) (evidence_of more)
 
 -- a drawing in a style, by the words after it
 abbrev pub styled_of : Style → List (List ℕ) → List ℕ → List ℕ → List ℕ → List ℕ → Option Form
@@ -144,8 +140,8 @@ styled_of style (word ∷ more) tech spice cell out =
     then low_of style more tech spice cell out
     else evident_of style (word ∷ more) tech spice cell out
 
--- the words after OUT: `--dogleg`, `--taps`, `--trails` and `--from FILE` in this order, or some of them; or `--taps`,
--- `--low` and `--trails`, of which `--low` has to be there
+-- the words after OUT: `--dogleg`, `--taps`, `--trails` and `--from FILE` in this order, or some of them; or `--dogleg`,
+-- `--taps`, `--low` and `--trails`, of which `--low` has to be there
 abbrev pub make_of : List (List ℕ) → Option Form
 make_of (tech ∷ spice ∷ cell ∷ out ∷ more) =
     styled_of (style_of more) (taps_of (wiring_of more).1).1 tech spice cell out

@@ -7,7 +7,7 @@ use crate::cell::cell_of;
 use crate::evidence::{Evidence, evidence_of, trails_of};
 use crate::form::Form;
 use crate::style::style_of;
-use cell_inputs::{Style, Taps, Wiring};
+use cell_inputs::Style;
 
 /// The form of the words after `plan`.
 pub(crate) fn plan_of(words: &[String]) -> Option<Form<'_>>
@@ -130,10 +130,9 @@ fn evident_of<'a>(
     drawing_of(style, evidence, more, tech, spice, cell, out)
 }
 
-// The drawing of the lowest of the least rows, whose wiring is straight.
+// The drawing of the lowest of the least rows in a style, with its evidence, in files whose names begin so.
 fn making_low_of<'a>(
-    wiring: Wiring,
-    taps: Taps,
+    style: Style,
     evidence: Evidence,
     tech: &'a str,
     spice: &'a str,
@@ -141,11 +140,8 @@ fn making_low_of<'a>(
     out: &'a str,
 ) -> Option<Form<'a>>
     ensures { option_map shown result
-        ≡ making_low_of wiring taps evidence tech.now spice.now cell.now out.now }
+        ≡ making_low_of style evidence tech.now spice.now cell.now out.now }
 {
-    let Wiring::Straight = wiring else {
-        return None;
-    };
     if out.is_empty() {
         return None;
     }
@@ -153,7 +149,7 @@ fn making_low_of<'a>(
     Some(Form::MakeLow {
         cell,
         out,
-        taps,
+        style,
         evidence,
     })
 }
@@ -170,7 +166,7 @@ fn low_of<'a>(
     ensures { option_map shown result ≡ low_of style (texts more.now) tech.now spice.now cell.now out.now }
 {
     let evidence = evidence_of(more)?;
-    making_low_of(style.wiring, style.taps, evidence, tech, spice, cell, out)
+    making_low_of(style, evidence, tech, spice, cell, out)
 }
 
 // A drawing in a style, by the words after it.

@@ -9,7 +9,7 @@ use crate::check_form::check_of;
 use crate::count::CellCount;
 use crate::evidence::Evidence;
 use crate::row::{self, RowAsked, choice_of};
-use cell_inputs::{Style, Taps};
+use cell_inputs::Style;
 use cell_num::{Bytes, NoMemory, is_cell};
 use scmos_rules::Deck;
 
@@ -36,12 +36,12 @@ pub enum Form<'a> {
         file: &'a str,
         evidence: Evidence,
     },
-    /// The drawing of the lowest of a cell's least rows, with evidence of its gaps and of its tracks, in files whose
-    /// names begin so. Its wiring is straight.
+    /// The drawing of the lowest of a cell's least rows in a style, with evidence of its gaps and of its tracks, in
+    /// files whose names begin so.
     MakeLow {
         cell: CellAsked<'a>,
         out: &'a str,
-        taps: Taps,
+        style: Style,
         evidence: Evidence,
     },
     /// Whether a file holds evidence that certifies a row of a cell.
@@ -198,7 +198,7 @@ plan TECH SPICE CELL --trails
 check TECH SPICE CELL FILE --trails
 make TECH SPICE CELL OUT [--dogleg] [--taps] --trails
 make TECH SPICE CELL OUT [--dogleg] [--taps] [--trails] --from FILE
-make TECH SPICE CELL OUT [--taps] --low [--trails]
+make TECH SPICE CELL OUT [--dogleg] [--taps] --low [--trails]
 check TECH SPICE CELL FILE --low
 row TECH SPICE OUT TOP CELL CELL .. --low
 ",
