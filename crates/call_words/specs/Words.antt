@@ -140,8 +140,8 @@ styled_of style (word ∷ more) tech spice cell out =
     then low_of style more tech spice cell out
     else evident_of style (word ∷ more) tech spice cell out
 
--- the words after OUT: `--dogleg`, `--taps`, `--trails` and `--from FILE` in this order, or some of them; or `--dogleg`,
--- `--taps`, `--low` and `--trails`, of which `--low` has to be there
+-- the words after OUT: `--dogleg`, `--taps`, `--trails` and `--from FILE` in this order, or some of them; or
+-- `--dogleg`, `--taps`, `--low` and `--trails`, of which `--low` has to be there
 abbrev pub make_of : List (List ℕ) → Option Form
 make_of (tech ∷ spice ∷ cell ∷ out ∷ more) =
     styled_of (style_of more) (taps_of (wiring_of more).1).1 tech spice cell out
