@@ -1,0 +1,2 @@
+-- What contracts of public calls cite, and what these definitions use.
+pub mod Lowest
