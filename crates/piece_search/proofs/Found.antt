@@ -1,5 +1,5 @@
 -- What the search for the fewest tracks says of the row that it found, and of the row's first routing on them.
-use Rattle.std.proofs.Common.{ℕ, ◌≡◌, ◌⊎◌, List, Option, IfSome, Some, inl, inr, subst, sym}
+use Rattle.std.proofs.Common.{ℕ, ◌≡◌, List, Option, IfSome, Some, subst, sym}
 use Rattle.cell_num.specs.declared.finger.Row.{Row}
 use Rattle.cell_num.specs.declared.net.Pins.{Pins}
 use Rattle.row_model.specs.declared.column.Column.{Column}
@@ -12,15 +12,14 @@ use Rattle.row_state.specs.Start.{AreSomeKinds}
 use Rattle.track_ways.specs.declared.lemma.TrackLemma.{TrackLemma}
 use Rattle.track_search.specs.declared.fewest.Fewest.{Fewest}
 use Rattle.track_search.specs.declared.fewest.Fewest.TheVariants as fewest
-use Rattle.track_search.specs.FewestBy.{IsFewestBy, IsFirstOnBy, IsOpenBy, TakeAtLeastBy, TakeTracksBy}
+use Rattle.track_search.specs.FewestBy.{IsFewestBy, IsFirstOnBy, TakeAtLeastBy, TakeTracksBy}
 use Rattle.track_search.specs.LimitBy.{IsFirstRowBy}
 use Rattle.track_search.specs.Lowest.{Arranges}
 use Rattle.track_search.proofs.LowestFound.{found_some}
 use Rattle.dogleg_route.specs.declared.piece.PieceRouting.{PieceRouting}
 use Rattle.piece_lines.specs.Lines.{PieceLineFits}
 use Rattle.first_pieces.specs.First.{HasNoPieces, IsFirstPieces}
-use Rattle.first_pieces.specs.Tries.{AreMorePieceTries}
-use Rattle.piece_search.specs.Lowest.{IsFirstLowPieces, IsPieceBudgetSpent, TakePiecesAtLeast}
+use Rattle.piece_search.specs.Lowest.{IsFirstLowPieces, TakePiecesAtLeast}
 use Rattle.piece_search.proofs.Pieces.{first_low, has_pieces, take_pieces}
 
 -- ---- the row
@@ -78,25 +77,3 @@ pub first_same : (pins : Pins) (k : Kinds) (gaps tracks same : ℕ) (row placed 
 first_same pins k gaps tracks same row placed some e is first =
     subst (IsFirstLowPieces pins k gaps same) (sym is)
     (subst (λ n. IsFirstLowPieces pins k gaps n row) (sym e) (first_low pins k gaps tracks row some first))
-
--- ---- why the search ends open
-
-pub still_open : (value : Row → State → Kinds → ℕ) (pins : Pins) (k : Kinds) (gaps most budget : ℕ) (e : Fewest)
-    (proved : ℕ) (lemmas : List TrackLemma) → e ≡ fewest.Open proved lemmas →
-    IsOpenBy PieceLineFits value pins k gaps most budget e →
-    (proved ≡ most) ⊎ IsPieceBudgetSpent value pins k gaps proved budget
-still_open value pins k gaps most budget e proved lemmas is h =
-    elim (subst (IsOpenBy PieceLineFits value pins k gaps most budget) is h) [
-      | inl all ↦ inl all
-      | inr spent ↦ inr (inl spent)
-    ]
-
-pub tries_spent : (value : Row → State → Kinds → ℕ) (pins : Pins) (k : Kinds) (gaps most tracks budget : ℕ)
-    (row : List Column) (p : Placement) → p ≡ placement_of row → IsFirstRowBy PieceLineFits pins tracks k gaps row →
-    AreMorePieceTries p pins tracks budget → (tracks ≡ most) ⊎ IsPieceBudgetSpent value pins k gaps tracks budget
-tries_spent value pins k gaps most tracks budget row p placed first more =
-    inr (inr (record {
-      row = row;
-      first = first;
-      more = subst (λ (q : Placement). AreMorePieceTries q pins tracks budget) placed more;
-    }))

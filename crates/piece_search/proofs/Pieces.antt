@@ -8,7 +8,6 @@ use Rattle.row_model.specs.Arrangement.{IsColumn}
 use Rattle.row_place.specs.Places.{placement_of}
 use Rattle.row_place.specs.Trunks.{HasPins}
 use Rattle.row_state.specs.declared.kind.Kinds.{Kinds}
-use Rattle.row_state.specs.declared.state.State.{State}
 use Rattle.row_state.specs.Completion.{Completes, left_in}
 use Rattle.row_state.specs.Start.{AreSomeKinds, start_of}
 use Rattle.track_ways.specs.Channel.{AreLinesOf}
