@@ -1,3 +1,4 @@
+pub mod Closed
 pub mod Decided
 pub mod Filled
 pub mod Law

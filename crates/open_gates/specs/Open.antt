@@ -60,6 +60,10 @@ of_gates f gates = record { row = row_of f gates; gates = gates }
 abbrev pub open_in : Fingers → List NetNo → List NetNo → OpenGates
 open_in f fill order = of_gates f (filter (is_unfilled f fill) order)
 
--- the other gates of the order
+-- the other gates of the order, by what is filled
 abbrev pub closed_in : Fingers → List NetNo → List NetNo → List NetNo
 closed_in f fill order = filter (λ gate. not (is_unfilled f fill gate)) order
+
+-- the gates of the order that are not left open
+abbrev pub closed_by : OpenGates → List NetNo → List NetNo
+closed_by opened order = filter (λ gate. not (is_left_open opened gate.0)) order

@@ -1,4 +1,4 @@
-ghost use Rattle.std.specs.Prelude.{◌≡◌, ◌++◌, ◌∷◌, [], All, IfOk, OnOk, map};
+ghost use Rattle.std.specs.Prelude.{◌≡◌, ◌++◌, ◌∷◌, [], true, false, All, IfNone, IfOk, IfSome, OnOk, map};
 ghost use Rattle.std.specs.Hash as fed;
 ghost use Rattle.std.specs.Hash.{same_Alike};
 ghost use Rattle.std.specs.List.{filter};
@@ -7,7 +7,7 @@ ghost use Rattle.trail_state.specs.Choices.{is_on};
 ghost use Rattle.trail_state.specs.Pairings.{HasSmallEnds};
 ghost use Rattle.open_gates.specs.Equal.{way_decides};
 ghost use Rattle.open_gates.specs.Leveled.{choices_in, open_choice, open_edge};
-ghost use Rattle.open_gates.specs.Listed.{edges_of, is_listed, nets_merged, with_way};
+ghost use Rattle.open_gates.specs.Listed.{edges_of, is_listed, is_long_in, nets_merged, with_way};
 ghost use Rattle.open_gates.specs.Merged.{merged_choices, with_choice};
 
 use crate::OpenGates;
@@ -17,7 +17,7 @@ use cell_num::{Finger, Fingers, List, NetNo, NoMemory, Row};
 use indexmap::IndexSet;
 use std::alloc::{AllocError, Global};
 use std::hash::{Hash, Hasher};
-use trail_state::{Choice, Edge, between, choices};
+use trail_state::{Choice, Edge, between};
 
 /// A choice of a gate, once its nodes are merged.
 #[derive(Debug, PartialEq, Eq, Drop)]
@@ -127,23 +127,42 @@ fn edges_of(alloc: Global, ways: &[Way]) -> Result<List<Choice>, NoMemory>
     Ok(all)
 }
 
-/// The choices of a gate: those of one that is left open are one.
-#[tactic(auto, using(crate::proofs::Listing::choices_same))]
-pub(crate) fn choices_in(
+// The choices with nodes merged, each once.
+fn merged_choices(
+    alloc: Global,
+    row: Row,
+    nets: &[u32],
+    choices: &[Choice],
+) -> Result<List<Choice>, NoMemory>
+    ensures { IfOk result (λ all. all ≡ merged_choices row (is_listed nets.now) choices.now) }
+{
+    let ways = ways_of(alloc, row, nets, choices)?;
+    edges_of(alloc, ways.as_slice())
+}
+
+/// The choices of a gate: those of one that is left open are one. None where it isn't left open and has more than `most`
+/// ways to pair the fingers of its first columns.
+#[tactic(auto, using(crate::proofs::Listing::choices_same, crate::proofs::Closed::choices_rules))]
+pub(crate) fn choices_within(
     alloc: Global,
     fingers: &Fingers,
     opened: &OpenGates,
     nets: &[u32],
     gate: NetNo,
-) -> Result<List<Choice>, NoMemory>
+    most: usize,
+) -> Result<Option<List<Choice>>, NoMemory>
     requires fingers { AreFingers fingers.now }
     requires nets { nets.now ≡ nets_merged fingers.now opened.now }
-    ensures { IfOk result (λ all. all ≡ choices_in fingers.now opened.now gate.0) }
+    ensures all { IfOk result (λ o. IfSome o (λ all. all ≡ choices_in fingers.now opened.now gate.0)) }
+    ensures few { IfOk result (λ o. IfSome o (λ _. is_long_in most fingers.now opened.now gate ≡ false)) }
+    ensures many { IfOk result (λ o. IfNone o (is_long_in most fingers.now opened.now gate ≡ true)) }
 {
     if opened.has(gate.0) {
-        return one(alloc, open_choice(alloc, opened.row, fingers, gate.0)?);
+        let choice = open_choice(alloc, opened.row, fingers, gate.0)?;
+        return Ok(Some(one(alloc, choice)?));
     }
-    let all = choices(alloc, fingers, gate)?;
-    let ways = ways_of(alloc, opened.row, nets, all.as_slice())?;
-    edges_of(alloc, ways.as_slice())
+    match trail_state::choices_within(alloc, fingers, gate, most)? {
+        Some(choices) => Ok(Some(merged_choices(alloc, opened.row, nets, choices.as_slice())?)),
+        None => Ok(None),
+    }
 }

@@ -1,9 +1,9 @@
-ghost use Rattle.std.specs.Prelude.{◌≡◌, ◌==◌, IfOk, not};
+ghost use Rattle.std.specs.Prelude.{◌≡◌, ◌==◌, IfOk};
 ghost use Rattle.std.specs.List.{filter, list_any};
 ghost use Rattle.cell_num.specs.declared.net.NetNo.{NetNo as NetNoOf};
 ghost use Rattle.trail_state.specs.Nodes.{has_net};
 ghost use Rattle.open_gates.specs.Listed.{nets_merged};
-ghost use Rattle.open_gates.specs.Open.{closed_in, fingers_at, fingers_beside, has_more, have_more, is_left_open};
+ghost use Rattle.open_gates.specs.Open.{fingers_at, fingers_beside, has_more, have_more, is_left_open};
 ghost use Rattle.open_gates.specs.Open.{is_merged_net, is_unfilled, longer_row, of_gates, open_in, row_of};
 
 use cell_num::{Finger, Fingers, List, NetNo, NoMemory, Row};
@@ -132,34 +132,6 @@ fn unfilled_gates(
         .copied()
         .filter(|gate| is_unfilled(fingers, fill, gate))
         .collect(alloc)
-}
-
-fn other_gates(
-    alloc: Global,
-    fingers: &Fingers,
-    fill: &[NetNo],
-    order: &[NetNo],
-) -> Result<Vec<NetNo>, AllocError>
-    ensures { IfOk result (λ gates. gates.items ≡ closed_in fingers.now fill.now order.now) }
-{
-    order
-        .iter()
-        .copied()
-        .filter(|gate| !is_unfilled(fingers, fill, gate))
-        .collect(alloc)
-}
-
-/// The gates of the order that are filled, or have no half columns.
-pub fn closed_gates(
-    alloc: Global,
-    fingers: &Fingers,
-    fill: &[NetNo],
-    order: &[NetNo],
-) -> Result<List<NetNo>, NoMemory>
-    ensures { IfOk result (λ gates. gates ≡ closed_in fingers.now fill.now order.now) }
-{
-    let gates = other_gates(alloc, fingers, fill, order)?;
-    Ok(List::from_vec(gates))
 }
 
 /// Whether an end of the finger has the net.

@@ -9,5 +9,5 @@ mod level;
 pub mod merge;
 mod nodes;
 
-pub use gates::{OpenGates, closed_gates, has_more, row_of};
-pub use level::{levels_of, open_levels};
+pub use gates::{OpenGates, has_more, row_of};
+pub use level::{filled_levels_within, open_levels_within};

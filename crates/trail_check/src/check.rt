@@ -3,18 +3,18 @@ ghost use Rattle.cell_num.specs.Fingers.{AreFingers};
 ghost use Rattle.trail_check.specs.Accepted.{AreTrueOf, IsAccepted, IsLow, IsNeverAccepted};
 ghost use Rattle.trail_check.specs.Gates.{AreGates, HasFewWays};
 ghost use Rattle.trail_check.specs.Leveled.{closed_of, levels_for, open_of};
+ghost use Rattle.trail_state.specs.Levels.{StopsAt};
 ghost use Rattle.open_gates.specs.Listed.{HasFewNodes};
 ghost use Rattle.trail_check.specs.Refusal.{IsFault, Proves, Refuses};
 ghost use Rattle.trail_check.specs.declared.refusal.TrailRefusal.TheVariants as refusal;
 
 use crate::gates::are_gates;
-use crate::ways::first_with_many;
-use crate::{TrailRefusal, check_lemmas, check_row};
-use cell_num::{Fingers, List, MOST_BYTES, NetNo, NoMemory};
-use open_gates::{OpenGates, closed_gates, open_levels};
+use crate::{MOST_CHOICES, TrailRefusal, check_lemmas, check_row};
+use cell_num::{Fingers, List, MOST_BYTES, NoMemory};
+use open_gates::{OpenGates, open_levels_within};
 use std::alloc::Global;
 use trail_log::TrailCertificate;
-use trail_state::Level;
+use trail_state::{Level, LevelStop};
 
 // The gates that are left open.
 fn open_of(
@@ -32,36 +32,34 @@ fn open_of(
     )
 }
 
-fn closed_of(
-    alloc: Global,
-    fingers: &Fingers,
-    trails: &TrailCertificate,
-) -> Result<List<NetNo>, NoMemory>
-    ensures { IfOk result (λ gates. gates ≡ closed_of fingers.now trails.now) }
-{
-    closed_gates(
-        alloc,
-        fingers,
-        trails.fill.as_slice(),
-        trails.order.as_slice(),
-    )
-}
-
+// The levels of the order. It stops at the first gate with too many ways that is not left open.
+#[tactic(auto, using(crate::proofs::Rules::levels_rules))]
 fn levels_for(
     alloc: Global,
     fingers: &Fingers,
     trails: &TrailCertificate,
     opened: &OpenGates,
-) -> Result<List<Level>, NoMemory>
+) -> Result<List<Level>, LevelStop>
     requires fingers { AreFingers fingers.now }
     requires opened { opened.now ≡ open_of fingers.now trails.now }
     ensures is { IfOk result (λ levels. levels ≡ levels_for fingers.now trails.now) }
     ensures nodes { IfOk result (All HasFewNodes) }
+    ensures few_ways { IfOk result (λ _. HasFewWays fingers.now trails.now) }
+    ensures stops { IfErr result (StopsAt MOST_CHOICES fingers.now (closed_of fingers.now trails.now)) }
 {
-    open_levels(alloc, fingers, opened, trails.order.as_slice())
+    match open_levels_within(
+        alloc,
+        fingers,
+        opened,
+        trails.order.as_slice(),
+        MOST_CHOICES,
+    ) {
+        Ok(levels) => Ok(levels),
+        Err(why) => Err(why),
+    }
 }
 
-// The lemmas and the row, where the gates are as asked.
+// The levels, the lemmas and the row, where the gates are as asked.
 #[tactic(auto, using(crate::proofs::Rules::check_listed_rules))]
 fn check_listed(
     alloc: Global,
@@ -72,7 +70,6 @@ fn check_listed(
     requires fingers { AreFingers fingers.now }
     requires opened { opened.now ≡ open_of fingers.now trails.now }
     requires gates { AreGates fingers.now trails.now }
-    requires few_ways { HasFewWays fingers.now trails.now }
     requires few { length trails.now.lemmas ≤ MOST_BYTES }
     ensures accepted { IfOk result (IsAccepted fingers.now trails.now) }
     ensures refused { IfErr result (λ cause. cause ≢ refusal.NoMemory → Refuses fingers.now trails.now cause) }
@@ -80,7 +77,11 @@ fn check_listed(
     ensures least { IfOk result (IsLow fingers.now) }
     ensures low { IfErr result (Proves (IsLow fingers.now)) }
 {
-    let levels = levels_for(alloc, fingers, trails, opened)?;
+    let levels = match levels_for(alloc, fingers, trails, opened) {
+        Ok(levels) => levels,
+        Err(LevelStop::Long { gate }) => return Err(TrailRefusal::Choices { gate }),
+        Err(LevelStop::NoMemory) => return Err(TrailRefusal::NoMemory),
+    };
     let ends = check_lemmas(alloc, levels.as_slice(), trails.lemmas.as_slice())?;
     check_row(alloc, fingers, &trails.best, ends.saturating_sub(1) / 2)
 }
@@ -108,10 +109,6 @@ pub fn check_trails(
     let opened = open_of(alloc, fingers, trails)?;
     if !are_gates(fingers, trails, &opened) {
         return Err(TrailRefusal::Gates);
-    }
-    let closed = closed_of(alloc, fingers, trails)?;
-    if let Some(gate) = first_with_many(alloc, fingers, closed.as_slice())? {
-        return Err(TrailRefusal::Choices { gate });
     }
     check_listed(alloc, fingers, trails, &opened)
 }

@@ -22,4 +22,4 @@ pub use laws::{classes, fewest_gaps, known_ends, possible_gaps};
 pub use lemma::{TrailLemma, lemma_listed};
 pub use refusal::TrailRefusal;
 pub use row::check_row;
-pub use ways::{MOST_CHOICES, first_with_many, has_many_ways};
+pub use ways::{MOST_CHOICES, has_many_ways};

@@ -1,6 +1,6 @@
 ghost use Rattle.std.specs.Prelude.{◌≡◌, IfOk};
 ghost use Rattle.cell_num.specs.Fingers.{AreFingers};
-ghost use Rattle.trail_check.specs.Gates.{first_with_many, has_many_ways};
+ghost use Rattle.trail_check.specs.Gates.{has_many_ways};
 
 use cell_num::{Fingers, NetNo, NoMemory};
 use std::alloc::Global;
@@ -17,23 +17,4 @@ pub fn has_many_ways(alloc: Global, fingers: &Fingers, gate: &NetNo) -> Result<b
     ensures { IfOk result (λ many. many ≡ has_many_ways fingers.now gate.now) }
 {
     has_long_front(alloc, fingers, *gate, MOST_CHOICES)
-}
-
-/// The first gate of the order that has more than [`MOST_CHOICES`] ways.
-pub fn first_with_many(
-    alloc: Global,
-    fingers: &Fingers,
-    order: &[NetNo],
-) -> Result<Option<NetNo>, NoMemory>
-    requires { AreFingers fingers.now }
-    ensures { IfOk result (λ first. first ≡ first_with_many fingers.now order.now) }
-{
-    let mut gates = order;
-    while let Some((gate, later)) = gates.split_first() {
-        if has_many_ways(alloc, fingers, gate)? {
-            return Ok(Some(*gate));
-        }
-        gates = later;
-    }
-    Ok(None)
 }

@@ -69,7 +69,7 @@ fewest_proved k f proof ok of_f kinds p few none =
     let row : HasRow f proof.gaps = (possible_gaps f ok order p.gates.order proof.gaps).1 choices in
     record { row = row.row; arranges = row.arranges; has = omega (arith, row.few, p.least row.row row.arranges); fewest = p.least }
 
-first_least : (k : Kinds) (f : Fingers) (gaps : ℕ) (steps : List Step) → AreKinds f k → IsLow f gaps → IsFirstOf k (start_of k) gaps steps → IsFirstLeast f (row_of k steps)
+pub first_least : (k : Kinds) (f : Fingers) (gaps : ℕ) (steps : List Step) → AreKinds f k → IsLow f gaps → IsFirstOf k (start_of k) gaps steps → IsFirstLeast f (row_of k steps)
 first_least k f gaps steps of_f low h =
     let few : gaps_of (row_of k steps) ≤ gaps = omega (arith, h.row.within, gaps_from_start k (row_of k steps)) in
     record {
@@ -78,11 +78,11 @@ first_least k f gaps steps of_f low h =
       first = λ other arranges same. h.row.first other (completion_of f k other of_f arranges) (omega (arith, few, same, gaps_from_start k other));
     }
 
-gaps_are : (k : Kinds) (f : Fingers) (gaps : ℕ) (steps : List Step) → AreKinds f k → IsLow f gaps → IsFirstOf k (start_of k) gaps steps → gaps_of (row_of k steps) ≡ gaps
+pub gaps_are : (k : Kinds) (f : Fingers) (gaps : ℕ) (steps : List Step) → AreKinds f k → IsLow f gaps → IsFirstOf k (start_of k) gaps steps → gaps_of (row_of k steps) ≡ gaps
 gaps_are k f gaps steps of_f low h =
     omega (arith, h.row.within, gaps_from_start k (row_of k steps), low (row_of k steps) (arrangement_of f k (row_of k steps) of_f h.row.completes))
 
-row_passes : (k : Kinds) (f : Fingers) (gaps proved : ℕ) (steps : List Step) → AreKinds f k → AreSomeKinds k → IsLow f gaps → gaps ≤ proved → IsFirstOf k (start_of k) gaps steps → RowPasses k f proved (best_with k gaps steps) (gaps_of (row_of k steps))
+pub row_passes : (k : Kinds) (f : Fingers) (gaps proved : ℕ) (steps : List Step) → AreKinds f k → AreSomeKinds k → IsLow f gaps → gaps ≤ proved → IsFirstOf k (start_of k) gaps steps → RowPasses k f proved (best_with k gaps steps) (gaps_of (row_of k steps))
 row_passes k f gaps proved steps of_f kinds low few h =
     let e : columns_listed k (steps_of k steps) ≡ row_of k steps = listed_row k steps in
     let counted : gaps_of (row_of k steps) ≡ gaps = gaps_are k f gaps steps of_f low h in

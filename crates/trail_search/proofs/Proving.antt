@@ -1,5 +1,5 @@
 -- What kept lemmas prove of every arrangement, where gates may be left open.
-use Rattle.std.specs.Prelude.{ℕ, ◌≡◌, ◌+◌, ◌*◌, ◌<◌, ◌≤◌, ◌==◌, if◌then◌else◌, not, List, [], Option, Some, None, All, IfSome, length, slice_get}
+use Rattle.std.specs.Prelude.{ℕ, ◌≡◌, ◌+◌, ◌*◌, ◌<◌, ◌≤◌, ◌==◌, if◌then◌else◌, not, List, [], Option, None, All, IfSome, length, slice_get}
 use Rattle.std.specs.List.{filter}
 use Rattle.std.proofs.Common.{◌∷◌, refl, sym, ap, subst, arith, ◌∙◌}
 use Rattle.cell_num.specs.declared.net.NetNo.{NetNo}
@@ -9,7 +9,8 @@ use Rattle.row_model.specs.declared.column.Column.{Column}
 use Rattle.row_model.specs.Arrangement.{IsArrangement}
 use Rattle.row_model.specs.Gaps.{gaps_of}
 use Rattle.trail_state.specs.declared.level.Level.{Level}
-use Rattle.trail_state.specs.Levels.{Ends, IsOrder}
+use Rattle.trail_state.specs.declared.level.LevelStop.{LevelStop}
+use Rattle.trail_state.specs.Levels.{Ends, IsOrder, StopsAt}
 use Rattle.open_gates.specs.Leveled.{levels_of, merged_levels}
 use Rattle.open_gates.specs.Open.{AreOpenGates, closed_in, open_in}
 use Rattle.open_gates.proofs.Law.{open_law}
@@ -19,7 +20,7 @@ use Rattle.trail_log.specs.declared.trails.TrailCertificate.{TrailCertificate}
 use Rattle.trail_log.specs.Order.{increases, net_rank}
 use Rattle.trail_log.specs.Fits.{LemmaFits, NetFits}
 use Rattle.trail_check.specs.declared.lemma.TrailLemma.{TrailLemma}
-use Rattle.trail_check.specs.Gates.{AreGates, HasFewWays, first_with_many}
+use Rattle.trail_check.specs.Gates.{AreGates, HasFewWays}
 use Rattle.trail_check.specs.Justified.{ends_proved, gaps_proved, unproved}
 use Rattle.trail_check.specs.Leveled.{levels_for, open_of}
 use Rattle.trail_check.specs.Listed.{lemmas_listed}
@@ -101,7 +102,7 @@ pub filled_are : (f : Fingers) (order opened fill : List NetNo) → opened ≡ o
 filled_are f order opened fill same others =
     others ∙ ap (λ (gs : List NetNo). filter (λ (g : NetNo). not (is_one_of gs g)) (uneven_gates f)) same
 
--- the first gate with too many ways that is not left open
-pub closed_many : (f : Fingers) (order fill : List NetNo) (o : Option NetNo) (gate : NetNo) → fill ≡ filled_gates f order → o ≡ first_with_many f (closed_in f fill order) → o ≡ Some gate → first_with_many f (closed_gates f order) ≡ Some gate
-closed_many f order fill o gate filled first some =
-    ap (λ (gs : List NetNo). first_with_many f (closed_in f gs order)) (sym filled) ∙ sym first ∙ some
+-- why no levels are listed, by the gates that are filled
+pub stops_filled : (most : ℕ) (f : Fingers) (order fill : List NetNo) (why : LevelStop) → fill ≡ filled_gates f order → StopsAt most f (closed_in f fill order) why → StopsAt most f (closed_gates f order) why
+stops_filled most f order fill why filled stops =
+    subst (λ (gs : List NetNo). StopsAt most f (closed_in f gs order) why) filled stops

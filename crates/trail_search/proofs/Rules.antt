@@ -1,5 +1,5 @@
 -- The lemmas that functions name, by function.
-use Rattle.open_gates.proofs.Leveled.{are_levels, few_nodes}
+use Rattle.open_gates.proofs.Closed.{few_closed, stops_closed}
 use Rattle.trail_search.proofs.Grown.{further_same, further_then}
 use Rattle.trail_search.proofs.OpenLevels.{open_short}
 use Rattle.trail_search.proofs.Proved.{gate_crowded, kept_least, levels_short, none_kept}
@@ -13,7 +13,7 @@ pub ruleset row_from_rules = (true_none, first_found, none_found, searched)
 
 pub ruleset prove_rules = (none_kept, is_proof, open_short)
 
-pub ruleset filled_rules = (are_levels, few_nodes)
+pub ruleset closed_rules = (few_closed, stops_closed)
 
 pub ruleset listing_rules = (filled_are)
 

@@ -3,12 +3,12 @@ pub mod Behind
 pub mod Ended
 pub mod Searched
 pub mod Filling
+pub mod First
 pub mod Proof
 pub mod Reached
 pub mod Search
 pub mod Units
--- What inner contracts and proofs alone cite.
-pub mod First
 pub mod Visit
+-- What inner contracts and proofs alone cite.
 pub mod Line
 pub mod Order

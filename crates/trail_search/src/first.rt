@@ -17,7 +17,7 @@ use std::alloc::Global;
 
 /// A row, and how a certificate lists it.
 #[derive(Debug, Drop)]
-pub(crate) struct ListedRow {
+pub struct ListedRow {
     pub row: Arrangement,
     pub best: Best,
 }
@@ -73,7 +73,7 @@ fn row_from(
 }
 
 /// The first row that has at most this number of gaps, or none. Where `tries`, trails are tried at its states.
-pub(crate) fn first_row(
+pub fn first_row(
     alloc: Global,
     kinds: &Kinds,
     gaps: u32,

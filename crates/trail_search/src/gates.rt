@@ -1,20 +1,17 @@
-ghost use Rattle.std.specs.Prelude.{◌≡◌, All, IfOk, not};
+ghost use Rattle.std.specs.Prelude.{◌≡◌, IfOk, not};
 ghost use Rattle.std.specs.List.{filter};
 ghost use Rattle.cell_num.specs.Fingers.{AreFingers};
-ghost use Rattle.open_gates.specs.Leveled.{levels_in};
-ghost use Rattle.open_gates.specs.Listed.{HasFewNodes};
-ghost use Rattle.open_gates.specs.Open.{closed_in, has_more, open_in};
-ghost use Rattle.trail_check.specs.Gates.{first_with_many};
+ghost use Rattle.open_gates.specs.Open.{has_more};
 ghost use Rattle.trail_search.specs.Filling.{crowded_gates, is_crowded, is_one_of, is_uneven};
 ghost use Rattle.trail_search.specs.Filling.{longer_gates, opened_gates, uneven_gates};
 ghost use Rattle.trail_search.specs.Order.{gates_of, has_finger};
 
 use cell_num::{Fingers, List, NetNo, NoMemory, Row};
-use open_gates::{OpenGates, closed_gates, has_more, open_levels, row_of};
+use open_gates::{has_more, row_of};
 use std::alloc::{AllocError, Global};
-use trail_check::{first_with_many, has_many_ways};
+use trail_check::has_many_ways;
 use trail_log::NetList;
-use trail_state::{Level, count_on};
+use trail_state::count_on;
 
 fn has_finger(fingers: &Fingers, gate: u32) -> bool
     ensures { result ≡ has_finger fingers.now gate }
@@ -121,41 +118,11 @@ pub(crate) fn opened(alloc: Global, fingers: &Fingers, order: &NetList) -> Resul
 }
 
 /// The gates with half columns that are filled: all but these.
-pub(crate) fn fill(alloc: Global, fingers: &Fingers, opened: &NetList) -> Result<NetList, NoMemory>
+pub fn fill(alloc: Global, fingers: &Fingers, opened: &NetList) -> Result<NetList, NoMemory>
     ensures { IfOk result (λ gates. gates ≡
         filter (λ gate. not (is_one_of opened.now gate)) (uneven_gates fingers.now)) }
 {
     let gates = uneven(alloc, fingers)?;
     let filled = others(alloc, gates.as_slice(), opened.as_slice())?;
     Ok(List::from_vec(filled))
-}
-
-/// The first gate of the order that is not left open and has too many ways.
-pub(crate) fn first_crowded(
-    alloc: Global,
-    fingers: &Fingers,
-    fill: &NetList,
-    order: &NetList,
-) -> Result<Option<NetNo>, NoMemory>
-    requires { AreFingers fingers.now }
-    ensures { IfOk result (λ first. first ≡ first_with_many fingers.now (closed_in fingers.now fill.now order.now)) }
-{
-    let closed = closed_gates(alloc, fingers, fill.as_slice(), order.as_slice())?;
-    first_with_many(alloc, fingers, closed.as_slice())
-}
-
-/// The levels of the order, where these gates are filled.
-pub(crate) fn levels(
-    alloc: Global,
-    fingers: &Fingers,
-    fill: &NetList,
-    order: &NetList,
-) -> Result<List<Level>, NoMemory>
-    requires { AreFingers fingers.now }
-    ensures is { IfOk result (λ levels.
-        levels ≡ levels_in fingers.now (open_in fingers.now fill.now order.now) order.now) }
-    ensures nodes { IfOk result (All HasFewNodes) }
-{
-    let opened = OpenGates::unfilled(alloc, fingers, fill.as_slice(), order.as_slice())?;
-    open_levels(alloc, fingers, &opened, order.as_slice())
 }

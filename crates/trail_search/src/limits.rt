@@ -8,9 +8,9 @@ ghost use Rattle.trail_search.specs.Reached.{AreReached};
 ghost use Rattle.trail_search.specs.Search.{AreChained, AreKept, AreSmall, AreTied, IsFurther};
 ghost use Rattle.trail_search.specs.Units.{path_units};
 
+use crate::gate_order::order;
 use crate::kept::Kept;
 use crate::listing::listing;
-use crate::order::order;
 use crate::proof::{Proof, ProveStop};
 use crate::visit::visit;
 use cell_num::{Fingers, Halt, List, NoMemory};

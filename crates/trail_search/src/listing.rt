@@ -1,18 +1,19 @@
 ghost use Rattle.std.specs.Prelude.{◌≡◌, None, All, IfErr, IfOk};
 ghost use Rattle.cell_num.specs.Fingers.{AreFingers};
-ghost use Rattle.trail_state.specs.Levels.{AreLevels, IsOrder, StopsAt};
-ghost use Rattle.open_gates.specs.Leveled.{levels_in, levels_of};
+ghost use Rattle.trail_state.specs.Levels.{IsOrder, StopsAt};
+ghost use Rattle.open_gates.specs.Leveled.{levels_in};
 ghost use Rattle.open_gates.specs.Listed.{HasFewNodes};
 ghost use Rattle.open_gates.specs.Open.{closed_in, open_in};
 ghost use Rattle.trail_check.specs.Gates.{first_with_many};
 ghost use Rattle.trail_search.specs.Filling.{closed_gates, filled_gates, opened_gates};
 
-use crate::gates::{fill, first_crowded, levels, opened};
-use cell_num::{Fingers, List, NetNo};
+use crate::gates::{fill, opened};
+use cell_num::{Fingers, List};
+use open_gates::{OpenGates, filled_levels_within, open_levels_within};
 use std::alloc::Global;
 use trail_check::MOST_CHOICES;
 use trail_log::NetList;
-use trail_state::{Level, LevelStop, levels_within};
+use trail_state::{Level, LevelStop};
 
 /// The levels of an order, the gates that are left open there, and those with half columns that are filled.
 #[derive(Debug, Drop)]
@@ -22,27 +23,30 @@ pub(crate) struct GateLevels {
     pub levels: List<Level>,
 }
 
-/// The levels of the order where each gate is filled. It stops at the first gate with too many ways.
-#[tactic(auto, using(crate::proofs::Rules::filled_rules))]
-pub(crate) fn filled_levels(
+// The levels of the order, where these gates are filled. It stops at the first gate with too many ways that is not left
+// open.
+#[tactic(auto, using(crate::proofs::Rules::closed_rules))]
+fn open_levels(
     alloc: Global,
     fingers: &Fingers,
-    order: &[NetNo],
+    fill: &NetList,
+    order: &NetList,
 ) -> Result<List<Level>, LevelStop>
     requires { AreFingers fingers.now }
-    ensures are { IfOk result (AreLevels fingers.now order.now) }
-    ensures is { IfOk result (λ levels. levels ≡ levels_of fingers.now order.now) }
+    ensures is { IfOk result (λ levels.
+        levels ≡ levels_in fingers.now (open_in fingers.now fill.now order.now) order.now) }
     ensures nodes { IfOk result (All HasFewNodes) }
-    ensures few_ways { IfOk result (λ _. first_with_many fingers.now order.now ≡ None) }
-    ensures stops { IfErr result (StopsAt MOST_CHOICES fingers.now order.now) }
+    ensures few_ways { IfOk result (λ _. first_with_many fingers.now (closed_in fingers.now fill.now order.now) ≡ None) }
+    ensures stops { IfErr result (StopsAt MOST_CHOICES fingers.now (closed_in fingers.now fill.now order.now)) }
 {
-    match levels_within(alloc, fingers, order, MOST_CHOICES) {
+    let opened = OpenGates::unfilled(alloc, fingers, fill.as_slice(), order.as_slice())?;
+    match open_levels_within(alloc, fingers, &opened, order.as_slice(), MOST_CHOICES) {
         Ok(levels) => Ok(levels),
         Err(why) => Err(why),
     }
 }
 
-// The same where gates may be left open. It lists the choices of a gate twice.
+// The levels where gates may be left open. Those with half columns are first asked whether they have too many ways.
 #[tactic(auto, using(crate::proofs::Rules::listing_rules))]
 fn open_listing(alloc: Global, fingers: &Fingers, order: &NetList) -> Result<GateLevels, LevelStop>
     requires { AreFingers fingers.now }
@@ -57,11 +61,10 @@ fn open_listing(alloc: Global, fingers: &Fingers, order: &NetList) -> Result<Gat
 {
     let opened = opened(alloc, fingers, order)?;
     let fill = fill(alloc, fingers, &opened)?;
-    let crowded = first_crowded(alloc, fingers, &fill, order)?;
-    if let Some(gate) = crowded {
-        return Err(LevelStop::Long { gate });
-    }
-    let levels = levels(alloc, fingers, &fill, order)?;
+    let levels = match open_levels(alloc, fingers, &fill, order) {
+        Ok(levels) => levels,
+        Err(why) => return Err(why),
+    };
     Ok(GateLevels {
         opened,
         fill,
@@ -88,7 +91,7 @@ pub(crate) fn listing(
         first_with_many fingers.now (closed_in fingers.now listing.fill order.now) ≡ None) }
     ensures stops { IfErr result (StopsAt MOST_CHOICES fingers.now (closed_gates fingers.now order.now)) }
 {
-    let levels = match filled_levels(alloc, fingers, order.as_slice()) {
+    let levels = match filled_levels_within(alloc, fingers, order.as_slice(), MOST_CHOICES) {
         Ok(levels) => levels,
         Err(LevelStop::Long { .. }) => return open_listing(alloc, fingers, order),
         Err(LevelStop::NoMemory) => return Err(LevelStop::NoMemory),

@@ -10,15 +10,16 @@ ghost use Rattle.trail_check.specs.Gates.{first_with_many};
 ghost use Rattle.trail_search.specs.Proof.{AttemptsOnce, AttemptsStopped, EndsRefuting, HasMost};
 ghost use Rattle.trail_search.specs.Units.{listed_units};
 
+use crate::gate_order::order;
 use crate::kept::Kept;
 use crate::limits::{MOST_LIMIT, most_ends};
-use crate::listing::filled_levels;
-use crate::order::order;
 use crate::proof::RefuteStop;
 use crate::units::{CROWDED_UNITS, listed_units, take};
 use crate::visit::visit;
 use cell_num::{Fingers, Halt, List, NetNo};
+use open_gates::filled_levels_within;
 use std::alloc::Global;
+use trail_check::MOST_CHOICES;
 use trail_state::{Level, LevelStop, TrailState};
 
 // The levels of the order, where no gate has too many ways and the units left are enough to list the choices of all.
@@ -40,7 +41,7 @@ fn listed(
     ensures halted { IfErr result (EndsRefuting fingers.now left.new) }
     ensures attempt { IfErr result (λ why. (limit : ℕ) → AttemptsStopped fingers.now limit left.old left.new why) }
 {
-    match filled_levels(alloc, fingers, order) {
+    match filled_levels_within(alloc, fingers, order, MOST_CHOICES) {
         Ok(levels) => {
             if !take(left, listed_units(&levels)) {
                 return Err(RefuteStop::Spent);

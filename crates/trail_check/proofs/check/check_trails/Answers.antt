@@ -7,11 +7,5 @@ returns-in_err-gate-clause-law c = accepted_low c.args.fingers.now c.args.trails
 pub returns-clause-law : goal.returns-clause-law
 returns-clause-law c = accepted_low c.args.fingers.now c.args.trails.now c.requires.fingers
 
-pub returns-in-Some-clause-law : goal.returns-in-Some-clause-law
-returns-in-Some-clause-law c = accepted_low c.args.fingers.now c.args.trails.now c.requires.fingers
-
 pub returns-in_err-opened-clause-law : goal.returns-in_err-opened-clause-law
 returns-in_err-opened-clause-law c = accepted_low c.args.fingers.now c.args.trails.now c.requires.fingers
-
-pub returns-in_err-closed-clause-law : goal.returns-in_err-closed-clause-law
-returns-in_err-closed-clause-law c = accepted_low c.args.fingers.now c.args.trails.now c.requires.fingers

@@ -1,12 +1,8 @@
-use Rattle.std.proofs.Common.{sym, ◌∙◌}
-use Rattle.trail_search.proofs.Proving.{closed_many, filled_are}
+use Rattle.trail_search.proofs.Proving.{filled_are, stops_filled}
 use Rattle.trail_search.proofs.listing.open_listing.Goals as goal
 
-pub returns-in-Some-clause-stops : goal.returns-in-Some-clause-stops
-returns-in-Some-clause-stops c =
-    closed_many c.args.fingers.now c.args.order.now c.in_ok-fill.fill c.in_ok-crowded.crowded c.in-Some.gate
+pub returns-in-Err-clause-stops : goal.returns-in-Err-clause-stops
+returns-in-Err-clause-stops c =
+    stops_filled 65536 c.args.fingers.now c.args.order.now c.in_ok-fill.fill c.in-Err.why
     (filled_are c.args.fingers.now c.args.order.now c.in_ok-opened.opened c.in_ok-fill.fill c.in_ok-opened.ensures c.in_ok-fill.ensures)
-    c.in_ok-crowded.ensures c.in-Some.is
-
-pub returns-clause-few_ways : goal.returns-clause-few_ways
-returns-clause-few_ways c = sym c.in_ok-crowded.ensures ∙ c.in_default.is
+    c.in-Err.ensures.stops

@@ -5,7 +5,7 @@ use Rattle.trail_search.proofs.refute.listed.Goals as goal
 
 pub returns-then-not-take-clause-attempt : goal.returns-then-not-take-clause-attempt
 returns-then-not-take-clause-attempt c = λ limit.
-    listed_alone c.args.fingers.now c.args.order.now c.in-Ok.levels limit c.args.left.now c.take.new.left c.requires.order c.in-Ok.ensures.is c.in-Ok.ensures.few_ways (omega (arith, c.listed_units.ensures, c.take.ensures.few c.if-not-take.true))
+    listed_alone c.args.fingers.now c.args.order.now c.in-Ok.levels limit c.args.left.now c.take.new.left c.requires.order c.in-Ok.ensures.is c.in-Ok.ensures.few (omega (arith, c.listed_units.ensures, c.take.ensures.few c.if-not-take.true))
 
 pub returns-then-not-take-2-clause-attempt : goal.returns-then-not-take-2-clause-attempt
 returns-then-not-take-2-clause-attempt c = λ limit.

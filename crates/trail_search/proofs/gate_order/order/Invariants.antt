@@ -1,6 +1,6 @@
 use Rattle.std.proofs.Common.{◌++◌, IsPermutation, length}
 use Rattle.trail_search.specs.Order.{gates_of}
-use Rattle.trail_search.proofs.order.order.Given as goal
+use Rattle.trail_search.proofs.gate_order.order.Given as goal
 
 abbrev pub invariant-gates : goal.invariant-gates
 invariant-gates l = IsPermutation (gates_of l.fingers) (l.order ++ l.left.items)

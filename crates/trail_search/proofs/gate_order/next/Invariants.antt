@@ -1,5 +1,5 @@
 use Rattle.std.proofs.Common.{◌<◌, length}
-use Rattle.trail_search.proofs.order.next.Given as goal
+use Rattle.trail_search.proofs.gate_order.next.Given as goal
 
 abbrev pub invariant-loop-at : goal.invariant-loop-at
 invariant-loop-at l = l.best < length l.left

@@ -122,7 +122,7 @@ fn met_by(alloc: Global, fingers: &Fingers, gates: &[GateNodes]) -> Result<Vec<M
 
 /// Each gate of the fingers once, each of them the one after which the fewest nodes are open.
 #[tactic(auto, using(crate::proofs::Orders::order_is))]
-pub(crate) fn order(alloc: Global, fingers: &Fingers) -> Result<NetList, NoMemory>
+pub fn order(alloc: Global, fingers: &Fingers) -> Result<NetList, NoMemory>
     requires { AreFingers fingers.now }
     ensures { IfOk result (IsOrder fingers.now) }
 {

@@ -1,5 +1,0 @@
-use Rattle.std.proofs.Common.{length}
-use Rattle.open_gates.proofs.level.+list.Given as goal
-
-abbrev pub decreases-list : goal.decreases-list
-decreases-list l = length l.order.now
