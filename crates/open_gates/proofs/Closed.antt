@@ -1,11 +1,11 @@
 -- The gates of an order that are not left open, and the first of them with too many ways.
-use Rattle.std.proofs.Common.{ℕ, ◌≡◌, ◌==◌, ◌&&◌, Bool, true, false, not, cond, List, [], ◌∷◌, Some, None, find, length, refl, sym, ap, arith, ◌∙◌, inl, inr, All, Contains}
+use Rattle.std.proofs.Common.{ℕ, ◌≡◌, ◌==◌, ◌&&◌, Bool, true, false, not, cond, if◌then◌else◌, List, [], ◌∷◌, Some, None, find, length, refl, sym, ap, arith, ◌∙◌, Contains}
 use Rattle.std.specs.List.{filter, list_any}
-use Rattle.std.proofs.lemmas.Bool.{both_ways, cases_Bool, eq-eqb, eqb-true}
+use Rattle.std.proofs.lemmas.Bool.{eq-eqb, eqb-true}
 use Rattle.std.proofs.lemmas.Bool.Decides.{same_from_decides}
 use Rattle.cell_num.specs.declared.net.NetNo.{NetNo}
 use Rattle.cell_num.specs.declared.finger.Fingers.{Fingers}
-use Rattle.cell_num.specs.Fingers.{AreFingers, on_gate}
+use Rattle.cell_num.specs.Fingers.{AreFingers}
 use Rattle.cell_num.proofs.Lists.{contains_here, contains_there}
 use Rattle.cell_num.proofs.Pairs.{Some', test_finds, test_there}
 use Rattle.trail_state.specs.declared.edge.Edge.{Edge}
@@ -14,21 +14,27 @@ use Rattle.trail_state.specs.declared.level.LevelStop.{LevelStop}
 use Rattle.trail_state.specs.declared.level.LevelStop.TheVariants as stop
 use Rattle.trail_state.specs.Levels.{StopsAt, first_long}
 use Rattle.trail_state.specs.Pairings.{choices_of, has_long_front}
-use Rattle.trail_state.proofs.Members.{filter_off, filter_on, passes_from, passes_to}
+use Rattle.trail_state.proofs.Members.{passes_from, passes_to}
 use Rattle.open_gates.specs.declared.gates.OpenGates.{OpenGates}
-use Rattle.open_gates.specs.Leveled.{choices_in, levels_in, levels_of, merged_levels, open_choice}
-use Rattle.open_gates.specs.Listed.{HasFewNodes, is_long_in, level_with}
+use Rattle.open_gates.specs.Leveled.{choices_in, merged_levels, open_choice}
+use Rattle.open_gates.specs.Listed.{is_listed, is_long_in, level_with, nets_merged}
 use Rattle.open_gates.specs.Merged.{merged_choices}
 use Rattle.open_gates.specs.Open.{closed_by, closed_in, is_left_open, is_merged_net, is_unfilled, open_in}
-use Rattle.open_gates.proofs.Leveled.{few_merged, few_nodes, first_level, no_level}
+use Rattle.open_gates.proofs.Leveled.{few_merged, first_level, no_level}
+use Rattle.open_gates.proofs.Listing.{choices_same}
 
 -- ---- the choices of a gate
 
 pub open_chosen : (f : Fingers) (opened : OpenGates) (gate : ℕ) → is_left_open opened gate ≡ true → open_choice opened.row f gate ∷ [] ≡ choices_in f opened gate
 open_chosen f opened gate on = sym (ap (λ b. if b then open_choice opened.row f gate ∷ [] else merged_choices opened.row (is_merged_net f opened) (choices_of f gate)) on)
 
-pub closed_chosen : (f : Fingers) (opened : OpenGates) (gate : ℕ) → is_left_open opened gate ≡ false → merged_choices opened.row (is_merged_net f opened) (choices_of f gate) ≡ choices_in f opened gate
-closed_chosen f opened gate off = sym (ap (λ b. if b then open_choice opened.row f gate ∷ [] else merged_choices opened.row (is_merged_net f opened) (choices_of f gate)) off)
+-- the choices of another gate, merged as the code does it
+pub closed_chosen : (f : Fingers) (opened : OpenGates) (nets : List ℕ) (gate : ℕ) (choices all : List (List Edge)) → AreFingers f → nets ≡ nets_merged f opened → is_left_open opened gate ≡ false → choices ≡ choices_of f gate → all ≡ merged_choices opened.row (is_listed nets) choices → all ≡ choices_in f opened gate
+closed_chosen f opened nets gate choices all ok nets_are off are is =
+    is
+    ∙ choices_same f opened nets choices ok nets_are
+    ∙ ap (merged_choices opened.row (is_merged_net f opened)) are
+    ∙ sym (ap (λ b. if b then open_choice opened.row f gate ∷ [] else merged_choices opened.row (is_merged_net f opened) (choices_of f gate)) off)
 
 pub open_not_long : (most : ℕ) (f : Fingers) (opened : OpenGates) (gate : NetNo) → is_left_open opened gate.0 ≡ true → is_long_in most f opened gate ≡ false
 open_not_long most f opened gate on = ap (λ b. not b && has_long_front most f gate.0) on
@@ -43,11 +49,11 @@ pub ruleset choices_rules = (open_chosen, closed_chosen, open_not_long, closed_l
 -- what passes a test among those that fail another one
 find_left : {X : Type 0} (p q : X → Bool) (xs : List X) → find q (filter (λ x. not (p x)) xs) ≡ find (λ x. not (p x) && q x) xs
 find_left p q [] = refl
-find_left {X} p q (x ∷ xs) = at (p x)
+find_left {X} p q (x ∷ xs) = at (p x) (find_left p q xs)
   where
-    at : (b : Bool) → find q (cond (not b) (x ∷ filter (λ y. not (p y)) xs) (filter (λ y. not (p y)) xs)) ≡ cond (not b && q x) (Some x) (find (λ y. not (p y) && q y) xs)
-    at true = find_left p q xs
-    at false = ap (cond (q x) (Some x)) (find_left p q xs)
+    at : (b : Bool) → find q (filter (λ y. not (p y)) xs) ≡ find (λ y. not (p y) && q y) xs → find q (cond (not b) (x ∷ filter (λ y. not (p y)) xs) (filter (λ y. not (p y)) xs)) ≡ cond (not b && q x) (Some x) (find (λ y. not (p y) && q y) xs)
+    at true rest = rest
+    at false rest = ap (cond (q x) (Some x)) rest
 
 first_is : (most : ℕ) (f : Fingers) (opened : OpenGates) (order : List NetNo) → first_long most f (closed_by opened order) ≡ find (is_long_in most f opened) order
 first_is most f opened order = find_left (λ (g : NetNo). is_left_open opened g.0) (λ (g : NetNo). has_long_front most f g.0) order
@@ -77,7 +83,7 @@ levels_more f opened order gate later choices level levels first chosen is rest 
     let both : level ∷ levels ≡ level_with f opened (gate ∷ later) later (choices_in f opened gate.0) ∷ merged_levels f opened later = λ i. same i ∷ rest i in
     both ∙ sym (first_level f opened gate later) ∙ ap (merged_levels f opened) (sym first)
 
-pub ruleset list_rules = (first_level, no_level, levels_more, none_long, long_first, long_later, stops_later)
+pub ruleset list_rules = (no_level, none_long, long_first, long_later, stops_later)
 
 -- ---- where no gate is left open
 

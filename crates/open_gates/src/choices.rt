@@ -142,7 +142,7 @@ fn merged_choices(
 
 /// The choices of a gate: those of one that is left open are one. None where it isn't left open and has more than `most`
 /// ways to pair the fingers of its first columns.
-#[tactic(auto, using(crate::proofs::Listing::choices_same, crate::proofs::Closed::choices_rules))]
+#[tactic(auto, using(crate::proofs::Closed::choices_rules))]
 pub(crate) fn choices_within(
     alloc: Global,
     fingers: &Fingers,
