@@ -1,5 +1,5 @@
 -- Any edges are those of some trails of which no two meet.
-use Rattle.std.proofs.Common.{ℕ, zero, suc, ◌≡◌, ◌+◌, ◌≤◌, Bool, true, false, List, [], ◌∷◌, ◌++◌, append_assoc}
+use Rattle.std.proofs.Common.{ℕ, zero, suc, ◌≡◌, ◌≤◌, Bool, true, false, List, [], ◌∷◌, ◌++◌, append_assoc}
 use Rattle.std.proofs.Common.{length, length-append, refl, sym, ap, subst, arith, ◌∙◌, inl, inr, AllPairs}
 use Rattle.std.proofs.Common.{IsPermutation}
 use Rattle.std.specs.List.{list_any}

@@ -1,5 +1,5 @@
 -- Trails of which no two meet: which ends they have, and which nodes they share.
-use Rattle.std.proofs.Common.{ℕ, ◌≡◌, ◌+◌, ◌<◌, ◌==◌, ◌||◌, ◌&&◌, Bool, true, false, List, [], ◌∷◌, ◌-◌, length, refl}
+use Rattle.std.proofs.Common.{ℕ, ◌≡◌, ◌+◌, ◌<◌, ◌==◌, ◌||◌, ◌&&◌, Bool, true, false, List, [], ◌∷◌, length, refl}
 use Rattle.std.proofs.Common.{sym, ap, subst, arith, ◌∙◌, inl, inr, ◌⊎◌, All, AllPairs, Contains}
 use Rattle.std.proofs.lemmas.Bool.{and_from, both_ways, eq-eqb, eqb-true, false_from_ne_true, ne_eqb, or_cases, or_left}
 use Rattle.std.proofs.lemmas.Bool.{or_parts, or_right}

@@ -16,7 +16,7 @@ use Rattle.trail_state.specs.declared.edge.Edge.{Edge}
 use Rattle.trail_state.specs.Edges.{edge_between}
 use Rattle.trail_state.proofs.Sizes.{IsNew, size_adds}
 use Rattle.trail_state.proofs.Walks.{breaks_from, breaks_of, edges_of}
-use Rattle.trail_check.specs.Graph.{AreChained, class_of, degree, ends_of, has_edge, is_even_class, is_odd}
+use Rattle.trail_check.specs.Graph.{class_of, degree, ends_of, has_edge, is_even_class, is_odd}
 use Rattle.trail_check.proofs.Steps.{IsEven, Runs, Step, is_at, is_on}
 use Rattle.trail_check.proofs.Steps as steps
 use Rattle.trail_check.proofs.Joins.{Trail}

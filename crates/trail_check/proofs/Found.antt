@@ -1,5 +1,5 @@
 -- What is found by numbers of states is what a walk through all lemmas finds.
-use Rattle.std.specs.Prelude.{ℕ, ◌≡◌, ◌≢◌, ◌==◌, ◌&&◌, ◌++◌, Bool, true, false, List, [], ◌∷◌, Option, Some, None, ◌⊎◌, Contains, length, nat_eq, nat_le, option_map, slice_get, unwrap_or}
+use Rattle.std.specs.Prelude.{ℕ, ◌≡◌, ◌≢◌, ◌==◌, ◌&&◌, ◌++◌, true, false, List, [], ◌∷◌, Option, Some, None, ◌⊎◌, Contains, length, nat_eq, nat_le, option_map, slice_get, unwrap_or}
 use Rattle.std.specs.HashMap.{get}
 use Rattle.std.specs.List.{list_any}
 use Rattle.std.proofs.Common.{refl, sym, ap, subst, arith, ◌∙◌, inl, inr}

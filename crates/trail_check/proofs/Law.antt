@@ -1,5 +1,5 @@
 -- The laws: choices have a row with no more gaps than their ends say, and each row is one of some choices.
-use Rattle.std.proofs.Common.{ℕ, ◌≡◌, ◌+◌, ◌-◌, ◌*◌, ◌≤◌, ◌<◌, ◌==◌, ◌↔◌, Bool, true, false, leb, List, [], ◌∷◌}
+use Rattle.std.proofs.Common.{ℕ, ◌≡◌, ◌+◌, ◌*◌, ◌≤◌, ◌<◌, ◌==◌, ◌↔◌, Bool, true, false, leb, List, [], ◌∷◌}
 use Rattle.std.proofs.Common.{◌++◌, Option, Some, None, append-nil, append_assoc, option_map, map, refl, sym}
 use Rattle.std.proofs.Common.{ap, subst, arith, ◌∙◌, All, Contains, IsPermutation}
 use Rattle.std.specs.List.{flat_map, zip}
