@@ -1,25 +1,26 @@
 -- A cell of these inputs, with its first least row or with its lowest one, from what the searches and the drawing
 -- answered.
-use Rattle.std.proofs.Common.{ℕ, ◌≡◌, ◌∙◌, true, false, Bool, List, Result, Ok, Err, IfErr, IfOk, ap, refl, sym, subst}
+use Rattle.std.proofs.Common.{ℕ, ◌≡◌, ◌∙◌, true, false, Bool, List, ap, refl, sym, subst}
 use Rattle.bound_log.specs.declared.log.Log.{Log}
 use Rattle.cell_inputs.specs.Inputs.{AreInputs, Inputs}
 use Rattle.cell_inputs.specs.Style.{plain_style}
 use Rattle.cell_inputs.specs.declared.style.LeastRow.{LeastRow}
 use Rattle.cell_inputs.specs.declared.style.LeastRow.TheVariants.{First, Lowest}
 use Rattle.cell_inputs.specs.declared.style.Style.{Style}
-use Rattle.cell_make.proofs.LowCell.{first_there}
+use Rattle.cell_make.proofs.LowCell.{first_straight}
 use Rattle.cell_make.proofs.MadeCells.{IsStanding, made_of, sound_so, stands_by}
 use Rattle.cell_make.specs.Extent.{LiesInFrame}
-use Rattle.cell_make.specs.Low.{IsLowRouted, IsUnwiredEnd, ProvesTracks}
-use Rattle.cell_make.specs.Making.{CanBeWritten, ComesTo, IsDrawnAs, drawing_in}
+use Rattle.cell_make.specs.Low.{IsLowRouted}
+use Rattle.cell_make.specs.LowTracks.{ProvesTracks}
+use Rattle.cell_make.specs.LowUnwired.{IsUnwiredEnd}
+use Rattle.cell_make.specs.Making.{CanBeWritten, ComesTo, drawing_in}
 use Rattle.cell_make.specs.RowInputs.{RowInputs}
-use Rattle.cell_make.specs.RowSteps.{IsCellBy, IsCellOf, IsFoundLow, IsLowDrawn, IsRingEnd, IsSoundCell, IsStop, IsStopBy, ringed}
+use Rattle.cell_make.specs.RowSteps.{IsCellBy, IsCellOf, IsFoundLow, IsRingEnd, IsSoundCell, IsStop, IsStopBy, ringed}
 use Rattle.cell_make.specs.CellOfRow.{Cyclic, IsMadeBy, IsMadeLow, StopAnswer, StopsBy, Tall, TellsWhy, Unfinished, Unwired}
 use Rattle.cell_make.specs.Rowed.{AreInputsOf, MadeCell, cell_drawing}
 use Rattle.cell_make.specs.Rows.{CanRowBeWritten, ComesAs, LiesRowInFrame}
 use Rattle.cell_make.specs.Searched.{IsFound, IsUnfinished}
 use Rattle.cell_make.specs.Style.{IsToldRing, tapped_by}
-use Rattle.cell_make.specs.declared.draw_outcome.DrawOutcome.{DrawOutcome}
 use Rattle.cell_make.specs.declared.draw_outcome.DrawOutcome.TheVariants as came
 use Rattle.cell_make.specs.declared.drawn.Drawn.{Drawn}
 use Rattle.cell_make.specs.declared.low_drawn.LowDrawn.{LowDrawn}
@@ -115,12 +116,12 @@ pub low_tall : (inputs : Inputs) (low : LowDrawn) (placement : Placement) (routi
 low_tall inputs low placement routing needed given are (first, log, found, h) is =
     let comes : ComesAs (IsLowRouted plain_style inputs h.row h.tracks) plain_style inputs h.row (came.Tall placement routing needed given) = subst (ComesAs (IsLowRouted plain_style inputs h.row h.tracks) plain_style inputs h.row) is h.comes in (
       Tall h.row log routing,
-      record { first = first; found = found; there = first_there inputs first are found.first; tracks = h.tracks; proves = h.proves; routed = comes.draws.0; tall = comes.draws.1 },
+      record { first = first; found = found; there = first_straight inputs first are found.first; tracks = h.tracks; proves = h.proves; routed = comes.draws.0; tall = comes.draws.1 },
       (h.row, log, routing, refl, comes.exact.0, comes.exact.1),
     )
 
 -- a ring, by why no row that can be wired is known
-low_ring : (inputs : Inputs) (first row : List Column) (log : Log) (tracks : TrackCertificate) (none_wired : Bool) (ring : Ring) → IsFound inputs first log → ProvesTracks inputs tracks → row ≡ first → IsToldRing plain_style.wiring (placement_of row) inputs.cell.pins ring → IsUnwiredEnd inputs tracks none_wired → IsWhy Lowest inputs (ringed ring none_wired)
+low_ring : (inputs : Inputs) (first row : List Column) (log : Log) (tracks : TrackCertificate) (none_wired : Bool) (ring : Ring) → IsFound inputs first log → ProvesTracks plain_style.wiring inputs tracks → row ≡ first → IsToldRing plain_style.wiring (placement_of row) inputs.cell.pins ring → IsUnwiredEnd plain_style.wiring inputs tracks none_wired → IsWhy Lowest inputs (ringed ring none_wired)
 low_ring inputs first row log tracks true ring found proves same told none = (
   Cyclic first log ring,
   (tracks, record { found = found; proves = proves; unwired = none; told = subst (λ (columns : List Column). IsToldRing plain_style.wiring (placement_of columns) inputs.cell.pins ring) same told }),

@@ -7,9 +7,12 @@ pub mod Finals
 pub mod LeastLines
 pub mod LogFits
 pub mod LowDrawn
+pub mod LowEnds
 pub mod LowOpen
 pub mod LowPasses
+pub mod LowPieces
 pub mod LowRows
+pub mod LowTracks
 pub mod Makes
 pub mod ReadBack
 pub mod Rings

@@ -16,18 +16,18 @@ use Rattle.cell_make.proofs.LowOpen.{open_routed}
 
 -- ---- the lowest row
 
-pub lowest_comes : (style : Style) (inputs : Inputs) (row : List Column) (certificate : TrackCertificate) (routing : Routing) (of : DrawOutcome) → IsLowest inputs row routing certificate → ComesAs (IsThat routing) style inputs row of → ComesAs (IsLowRouted style inputs row certificate) style inputs row of
+pub lowest_comes : (style : Style) (inputs : Inputs) (row : List Column) (certificate : TrackCertificate) (routing : Routing) (of : DrawOutcome) → IsLowest style.wiring inputs row routing certificate → ComesAs (IsThat routing) style inputs row of → ComesAs (IsLowRouted style inputs row certificate) style inputs row of
 lowest_comes style inputs row certificate routing of lowest h = comes_with (IsLowRouted style inputs row certificate) style inputs row routing of (inl lowest) h
 
-wired_stop : (inputs : Inputs) (row : List Column) (certificate : TrackCertificate) (of : DrawOutcome) → IsWired of → IsLowStop inputs row certificate (row_answer of)
-wired_stop inputs row certificate (came.Drawn placement routing drawn) wired = tt
-wired_stop inputs row certificate (came.Cyclic placement ring) wired = absurd wired
-wired_stop inputs row certificate (came.Tall placement routing needed given) wired = tt
+wired_stop : (style : Style) (inputs : Inputs) (row : List Column) (certificate : TrackCertificate) (of : DrawOutcome) → IsWired of → IsLowStop style inputs row certificate (row_answer of)
+wired_stop style inputs row certificate (came.Drawn placement routing drawn) wired = tt
+wired_stop style inputs row certificate (came.Cyclic placement ring) wired = absurd wired
+wired_stop style inputs row certificate (came.Tall placement routing needed given) wired = tt
 
-pub lowest_draws : (style : Style) (inputs : Inputs) (row : List Column) (certificate : TrackCertificate) (routing : Routing) (of : DrawOutcome) → IsLowest inputs row routing certificate → IsWired of → ComesAs (IsThat routing) style inputs row of → DrawsLow style inputs row certificate (row_answer of)
-lowest_draws style inputs row certificate routing of lowest wired h = ((lowest_comes style inputs row certificate routing of lowest h).draws, wired_stop inputs row certificate of wired)
+pub lowest_draws : (style : Style) (inputs : Inputs) (row : List Column) (certificate : TrackCertificate) (routing : Routing) (of : DrawOutcome) → IsLowest style.wiring inputs row routing certificate → IsWired of → ComesAs (IsThat routing) style inputs row of → DrawsLow style inputs row certificate (row_answer of)
+lowest_draws style inputs row certificate routing of lowest wired h = ((lowest_comes style inputs row certificate routing of lowest h).draws, wired_stop style inputs row certificate of wired)
 
 -- ---- the first row that can be wired with the fewest gaps
 
-pub open_comes : (style : Style) (inputs : Inputs) (least row : List Column) (certificate : TrackCertificate) (of : DrawOutcome) → IsFirstLeast inputs.fingers least → IsOpenRow inputs least row certificate → ComesFrom style inputs row of → ComesAs (IsLowRouted style inputs row certificate) style inputs row of
+pub open_comes : (style : Style) (inputs : Inputs) (least row : List Column) (certificate : TrackCertificate) (of : DrawOutcome) → IsFirstLeast inputs.fingers least → IsOpenRow style.wiring inputs least row certificate → ComesFrom style inputs row of → ComesAs (IsLowRouted style inputs row certificate) style inputs row of
 open_comes style inputs least row certificate of first is h = comes_as (IsRouted style inputs row) (IsLowRouted style inputs row certificate) style inputs row of (λ r. open_routed style inputs least row certificate r first is) h

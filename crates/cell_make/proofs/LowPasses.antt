@@ -1,5 +1,5 @@
--- What the searches for a row without a cycle prove, with one gap more each time.
-use Rattle.std.proofs.Common.{ℕ, ◌≡◌, ◌≤◌, ◌<◌, ◌+◌, inl, inr, true, false, List, [], All, length, refl, subst, sym, arith}
+-- With straight trunks: what the searches for a row without a cycle prove, with one gap more each time.
+use Rattle.std.proofs.Common.{ℕ, ◌≡◌, ◌≤◌, ◌+◌, inl, inr, true, false, List, [], All, length, refl, subst, sym, arith}
 use Rattle.std.proofs.lemmas.Bool.{cases_lt}
 use Rattle.std.proofs.lemmas.List.Elements.{All-nil}
 use Rattle.cell_num.specs.declared.finger.Fingers.{Fingers}
@@ -26,10 +26,13 @@ use Rattle.cycle_search.specs.Search.{AreKept, IsFirstWired}
 use Rattle.track_log.specs.declared.certificate.TrackCertificate.{TrackCertificate}
 use Rattle.track_log.specs.Fits.{LemmaFits}
 use Rattle.track_search.specs.Kept.{IsKeptWithin}
+use Rattle.cell_inputs.specs.declared.style.Wiring.TheVariants.{Straight}
 use Rattle.cell_inputs.specs.Inputs.{AreInputs, Inputs}
-use Rattle.cell_make.specs.Low.{CertifiesCycles, IsFirstLeastWired, IsLeast, IsUnwiredEnd, IsWired, NoneIsWiredWithin, ProvesTracks}
 use Rattle.cell_make.specs.LowCycles.{CertifyUnwired, IsPassSpent}
 use Rattle.cell_make.specs.LowEnded.{nothing_at, unwired_at}
+use Rattle.cell_make.specs.LowRows.{IsFirstLeastWired, IsLeast, IsWired, NoneIsWiredWithin}
+use Rattle.cell_make.specs.LowTracks.{CertifiesCycles, ProvesTracks}
+use Rattle.cell_make.specs.LowUnwired.{IsUnwiredEnd}
 use Rattle.cell_make.specs.LowWired.{AreBelow, IsBelow}
 use Rattle.cell_make.proofs.LowRows.{fewer_than_columns, pins_there}
 use Rattle.cell_make.proofs.Makes.{few_columns}
@@ -86,7 +89,7 @@ module _ (inputs : Inputs) (k : Kinds) (gaps : ℕ) (are : AreInputs inputs) (ki
     cycles = record { below = inr (record { below = gaps; next = refl; unwired = certify }); fit = fit };
   })
     where
-      none : NoneIsWiredWithin inputs gaps
+      none : NoneIsWiredWithin Straight inputs gaps
       none row arranged low wired = unwired row wired.0 arranged low wired.1
 
       certify : CertifyUnwired inputs k gaps lemmas
@@ -97,7 +100,7 @@ module _ (inputs : Inputs) (k : Kinds) (gaps : ℕ) (are : AreInputs inputs) (ki
 
   module _ (below : TrackCertificate) (is : IsBelow inputs k gaps below) where
     -- a row that can be wired has as many gaps or more
-    least_gaps : (row : List Column) → IsArrangement row inputs.fingers → IsWired inputs row → gaps ≤ gaps_of row
+    least_gaps : (row : List Column) → IsArrangement row inputs.fingers → IsWired Straight inputs row → gaps ≤ gaps_of row
     least_gaps row arranged wired = elim is.known [
       | inl nothing ↦ nothing.fewest row arranged
       | inr fewer ↦ elim (cases_lt below.gaps (gaps_of row)) [
@@ -107,11 +110,11 @@ module _ (inputs : Inputs) (k : Kinds) (gaps : ℕ) (are : AreInputs inputs) (ki
     ]
 
     -- a row without a cycle can be wired with the fewest gaps
-    pub finds : (row : List Column) → AreWiredRows → AreCyclicRows → IsFirstWired inputs.cell.pins k gaps row → IsFirstLeastWired inputs row × AreBelow inputs k (gaps_of row) below.cycles
+    pub finds : (row : List Column) → AreWiredRows → AreCyclicRows → IsFirstWired inputs.cell.pins k gaps row → IsFirstLeastWired Straight inputs row × AreBelow inputs k (gaps_of row) below.cycles
     finds row legal cyclic first =
         let arranged : IsArrangement row inputs.fingers = first.arranges inputs.fingers kinds in
         let has : HasTightRouting (placement_of row) inputs.cell.pins = legal row inputs.cell.pins arranged.columns (few_columns inputs row are arranged) (pins_there inputs row are arranged) first.free in
-        let wired : IsWired inputs row = (has.routing, has.legal) in
+        let wired : IsWired Straight inputs row = (has.routing, has.legal) in
         let same : gaps ≡ gaps_of row = omega (arith, first.within, least_gaps row arranged wired) in (
           record {
             least = record { arranges = arranged; wired = wired; least = λ other o w. omega (arith, first.within, least_gaps other o w) };
@@ -121,11 +124,11 @@ module _ (inputs : Inputs) (k : Kinds) (gaps : ℕ) (are : AreInputs inputs) (ki
           subst (λ n. AreBelow inputs k n below.cycles) same is.cycles,
         )
 
-    pub spends : IsPassSpent inputs k gaps → IsUnwiredEnd inputs below false × ProvesTracks inputs below
+    pub spends : IsPassSpent inputs k gaps → IsUnwiredEnd Straight inputs below false × ProvesTracks Straight inputs below
     spends spent = (record { gaps = gaps; below = is.known; spent = (k, kinds, some, spent) }, is.proves)
 
     -- no row has as many gaps as columns
-    pub ends : (row : List Column) → IsArrangement row inputs.fingers → gaps ≡ length row → IsUnwiredEnd inputs below true × ProvesTracks inputs below
+    pub ends : (row : List Column) → IsArrangement row inputs.fingers → gaps ≡ length row → IsUnwiredEnd Straight inputs below true × ProvesTracks Straight inputs below
     ends row arranged same = (
       elim is.known [
         | inl nothing ↦ absurd (omega (arith, nothing.fewest row arranged, fewer_than_columns inputs row are arranged, same))

@@ -6,7 +6,10 @@ use Rattle.cell_inputs.specs.Inputs.{Inputs}
 use Rattle.cell_inputs.specs.Style.{plain_style}
 use Rattle.cell_inputs.specs.declared.style.LeastRow.{LeastRow}
 use Rattle.cell_inputs.specs.declared.style.LeastRow.TheVariants.{First, Lowest}
-use Rattle.cell_make.specs.Low.{HasFirstLeast, IsLowRouted, IsUnwiredEnd, ProvesTracks}
+use Rattle.cell_make.specs.Low.{IsLowRouted}
+use Rattle.cell_make.specs.LowRows.{HasFirstLeast}
+use Rattle.cell_make.specs.LowTracks.{ProvesTracks}
+use Rattle.cell_make.specs.LowUnwired.{IsUnwiredEnd}
 use Rattle.cell_make.specs.Making.{IsDrawnAs, IsMade, Makes}
 use Rattle.cell_make.specs.Making as making
 use Rattle.cell_make.specs.Searched.{IsFound, IsUnfinished}
@@ -29,7 +32,7 @@ pub record IsMadeLow (inputs : Inputs) (row : List Column) (log : Log) (routing 
   pub first : List Column
   pub found : IsFound inputs first log
   pub tracks : TrackCertificate
-  pub proves : ProvesTracks inputs tracks
+  pub proves : ProvesTracks plain_style.wiring inputs tracks
   pub drawn : IsDrawnAs (IsLowRouted plain_style inputs row tracks routing) plain_style inputs row routing xs
 
 -- its first least row, or its lowest one, drawn with straight trunks and no taps
@@ -52,9 +55,9 @@ pub data StopAnswer : Type 0 where
 pub record IsTallLow (inputs : Inputs) (row : List Column) (log : Log) (routing : Routing) : Type 0 where
   pub first : List Column
   pub found : IsFound inputs first log
-  pub there : HasFirstLeast inputs
+  pub there : HasFirstLeast plain_style.wiring inputs
   pub tracks : TrackCertificate
-  pub proves : ProvesTracks inputs tracks
+  pub proves : ProvesTracks plain_style.wiring inputs tracks
   pub routed : IsLowRouted plain_style inputs row tracks routing
   pub tall : IsTooTall row routing.tracks inputs.tech.height
 
@@ -62,8 +65,8 @@ pub record IsTallLow (inputs : Inputs) (row : List Column) (log : Log) (routing 
 pub record IsRingedLow (inputs : Inputs) (row : List Column) (log : Log) (tracks : TrackCertificate)
     (none_wired : Bool) (ring : Ring) : Type 0 where
   pub found : IsFound inputs row log
-  pub proves : ProvesTracks inputs tracks
-  pub unwired : IsUnwiredEnd inputs tracks none_wired
+  pub proves : ProvesTracks plain_style.wiring inputs tracks
+  pub unwired : IsUnwiredEnd plain_style.wiring inputs tracks none_wired
   pub told : IsToldRing plain_style.wiring (placement_of row) inputs.cell.pins ring
 
 -- With straight trunks and no taps the first least row has no drawing, as `make` has it; or the lowest one has none.

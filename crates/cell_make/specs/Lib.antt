@@ -3,6 +3,9 @@ pub mod CellOfRow
 pub mod Extent
 pub mod Low
 pub mod LowCycles
+pub mod LowRows
+pub mod LowTracks
+pub mod LowUnwired
 pub mod Making
 pub mod Rows
 pub mod Searched

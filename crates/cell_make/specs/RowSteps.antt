@@ -6,7 +6,9 @@ use Rattle.cell_inputs.specs.Style.{plain_style}
 use Rattle.cell_inputs.specs.declared.style.LeastRow.{LeastRow}
 use Rattle.bound_log.specs.declared.log.Log.{Log}
 use Rattle.cell_make.specs.Extent.{HasExtent}
-use Rattle.cell_make.specs.Low.{IsLowRouted, IsUnwiredEnd, ProvesTracks}
+use Rattle.cell_make.specs.Low.{IsLowRouted}
+use Rattle.cell_make.specs.LowTracks.{ProvesTracks}
+use Rattle.cell_make.specs.LowUnwired.{IsUnwiredEnd}
 use Rattle.cell_make.specs.Rows.{ComesAs}
 use Rattle.cell_make.specs.Searched.{IsFound}
 use Rattle.channel_route.specs.declared.ring.Ring.{Ring}
@@ -53,7 +55,7 @@ abbrev pub IsRingEnd : Inputs → (first row : List Column) → TrackCertificate
     → Type 0
 IsRingEnd inputs first row tracks none_wired (came.Drawn placement routing drawn) = Unit {0}
 IsRingEnd inputs first row tracks none_wired (came.Cyclic placement ring) =
-    (row ≡ first) × IsUnwiredEnd inputs tracks none_wired
+    (row ≡ first) × IsUnwiredEnd plain_style.wiring inputs tracks none_wired
 IsRingEnd inputs first row tracks none_wired (came.Tall placement routing needed given) = Unit {0}
 
 -- what drawing the lowest row results in, or where the search for it is open the first that can be wired with the
@@ -61,7 +63,7 @@ IsRingEnd inputs first row tracks none_wired (came.Tall placement routing needed
 pub record IsLowDrawn (inputs : Inputs) (first : List Column) (low : LowDrawn) : Type 0 where
   pub row : List Column
   pub tracks : TrackCertificate
-  pub proves : ProvesTracks inputs tracks
+  pub proves : ProvesTracks plain_style.wiring inputs tracks
   pub comes : ComesAs (IsLowRouted plain_style inputs row tracks) plain_style inputs row low.came
   pub ring : IsRingEnd inputs first row tracks low.none_wired low.came
 

@@ -1,15 +1,13 @@
 ghost use Rattle.std.specs.Prelude.{◌≡◌, IfOk};
 ghost use Rattle.row_model.specs.Arrangement.{IsArrangement};
 ghost use Rattle.row_place.specs.Places.{IsPlacement, placement_of};
-ghost use Rattle.channel_route.specs.Routing.{IsLegal};
-ghost use Rattle.cell_make.specs.Low.{low_style};
 ghost use Rattle.cell_make.specs.Rows.{CanRowBeWritten, ComesAs, ComesFrom, IsThat, IsWired, LiesRowInFrame};
 ghost use Rattle.cell_make.specs.Style.{AreLegal};
 
 use crate::channel::{ChannelStop, route_by};
 use crate::drawn::{Drawn, draw_routed};
 use cell_draw::DrawFault;
-use cell_inputs::{Inputs, Style, Taps, Wiring};
+use cell_inputs::{Inputs, Style};
 use cell_num::NoMemory;
 use channel_route::{Ring, Routing};
 use row_model::Arrangement;
@@ -103,29 +101,25 @@ impl DrawOutcome {
         }
     }
 
-    /// The drawing of an arrangement of the fingers on its lines with this legal routing of straight trunks; or a
-    /// height that is not enough. A drawing can be written.
+    /// The drawing in this style of an arrangement of the fingers on its lines, with this legal routing; or a height
+    /// that is not enough. A drawing can be written.
     pub fn lowest(
         alloc: Global,
         inputs: &Inputs,
-        taps: Taps,
+        style: Style,
         placement: Placement,
         routing: Routing,
     ) -> Result<DrawOutcome, NoMemory>
         requires arranged { IsArrangement placement.row inputs.now.fingers }
         requires placed { placement ≡ placement_of placement.row }
-        requires legal { IsLegal placement inputs.now.cell.pins routing }
+        requires legal { AreLegal style.wiring placement inputs.now.cell.pins routing }
         // with that routing
-        ensures comes { IfOk result (ComesAs (IsThat routing) (low_style taps) inputs.now placement.row) }
+        ensures comes { IfOk result (ComesAs (IsThat routing) style inputs.now placement.row) }
         ensures wired { IfOk result IsWired }
         ensures written { IfOk result (CanRowBeWritten inputs.now) }
         ensures extent { IfOk result (LiesRowInFrame inputs.now) }
     {
         inputs.show_limits();
-        let style = Style {
-            wiring: Wiring::Straight,
-            taps,
-        };
         of_routed(alloc, inputs, style, placement, routing)
     }
 }

@@ -5,7 +5,7 @@ ghost use Rattle.cell_make.specs.Rows.{CanRowBeWritten, LiesRowInFrame};
 
 use crate::draw_outcome::DrawOutcome;
 use crate::low_planned::LowPlanned;
-use cell_inputs::{Inputs, Style, Taps};
+use cell_inputs::{Inputs, Style, Wiring};
 use cell_num::NoMemory;
 use row_model::Arrangement;
 use row_place::place;
@@ -29,7 +29,8 @@ impl LowDrawn {
         ensures extent { IfOk result (λ low. LiesRowInFrame inputs.now low.came) }
     {
         inputs.show_limits();
-        let planned = LowPlanned::of(alloc, inputs, row)?;
+        let style = Style::plain();
+        let planned = LowPlanned::of(alloc, inputs, Wiring::Straight, row)?;
         match planned {
             LowPlanned::Found {
                 placement,
@@ -37,7 +38,7 @@ impl LowDrawn {
                 certificate,
             } => {
                 drop(certificate);
-                let came = DrawOutcome::lowest(alloc, inputs, Taps::Without, placement, routing)?;
+                let came = DrawOutcome::lowest(alloc, inputs, style, placement, routing)?;
                 Ok(LowDrawn {
                     came,
                     none_wired: false,
@@ -48,7 +49,7 @@ impl LowDrawn {
                 certificate,
             } => {
                 drop(certificate);
-                let came = DrawOutcome::of(alloc, inputs, Style::plain(), &wired)?;
+                let came = DrawOutcome::of(alloc, inputs, style, &wired)?;
                 Ok(LowDrawn {
                     came,
                     none_wired: false,

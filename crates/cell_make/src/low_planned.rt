@@ -1,20 +1,21 @@
-ghost use Rattle.std.specs.Prelude.{◌≡◌, [], IfNone, IfOk, IfSome};
-ghost use Rattle.row_model.specs.Arrangement.{IsArrangement};
+ghost use Rattle.std.specs.Prelude.{◌≡◌, IfOk, MatchOption};
 ghost use Rattle.row_model.specs.Gaps.{gaps_of};
 ghost use Rattle.row_state.specs.Start.{AreKinds};
-ghost use Rattle.row_place.specs.Places.{placement_of};
-ghost use Rattle.channel_route.specs.Cycle.{HasNoCycle};
-ghost use Rattle.cell_make.specs.Low.{IsLeast, IsLeastWired, IsLowPlanned, IsRinged};
+ghost use Rattle.cell_inputs.specs.declared.style.Wiring.TheVariants.{Straight as OfNets};
+ghost use Rattle.cell_make.specs.Low.{IsLowPlanned};
 ghost use Rattle.cell_make.specs.LowEnded.{planned_by};
+ghost use Rattle.cell_make.specs.LowRows.{CanBeRouted, IsLeast, IsLeastWired, IsRinged, IsWired};
 ghost use Rattle.cell_make.specs.LowWired.{AreBelow, IsPlannedBy};
 
+use crate::low_pieces::by_pieces;
+use crate::low_ring::ring_of;
 use crate::low_wired::LowWired;
-use cell_inputs::Inputs;
+use cell_inputs::{Inputs, Wiring};
 use cell_num::NoMemory;
-use channel_route::{Ring, RouteStop, Routing, route, some_routing};
+use channel_route::{Ring, Routing};
 use row_cycles::CycleLemmas;
 use row_model::{Arrangement, gaps};
-use row_place::{Placement, place};
+use row_place::Placement;
 use row_state::{Component, Kinds, kinds};
 use std::alloc::Global;
 use track_log::TrackCertificate;
@@ -38,7 +39,9 @@ pub enum LowPlanned {
         certificate: TrackCertificate,
     },
     /// A cycle of the least row, where no row that can be wired is known: there is none, or the budget was spent on the
-    /// search for one. The certificate proves that none is wired, within its gaps, or nothing, with no tracks.
+    /// search for one. The certificate proves that none is wired, within its gaps, or nothing, with no tracks. With
+    /// doglegs only rows with the fewest gaps are searched, so `none_wired` is false: none of these can be wired, or
+    /// the budget was spent. Then the certificate proves how many tracks each of these takes at least.
     Unwired {
         ring: Ring,
         certificate: TrackCertificate,
@@ -46,23 +49,8 @@ pub enum LowPlanned {
     },
 }
 
-// The cycle in which nets of the row stand above each other, where they do.
-fn ring_of(alloc: Global, inputs: &Inputs, row: &Arrangement) -> Result<Option<Ring>, NoMemory>
-    requires { IsArrangement row.now inputs.now.fingers }
-    ensures ring { IfOk result (λ found. IfSome found (IsRinged inputs.now row.now)) }
-    ensures none { IfOk result (λ found. IfNone found (HasNoCycle (placement_of row.now) inputs.now.cell.pins)) }
-{
-    inputs.show_limits();
-    let placement = place(alloc, row)?;
-    match route(alloc, &placement, &inputs.cell.pins) {
-        Ok(_) => Ok(None),
-        Err(RouteStop::Cycle(cycle)) => Ok(Some(Ring::OfNets(cycle))),
-        Err(RouteStop::NoMemory) => Err(NoMemory),
-    }
-}
-
 // A copy, for what is planned.
-fn copied(row: &Arrangement) -> Result<Arrangement, NoMemory>
+pub(crate) fn copied(row: &Arrangement) -> Result<Arrangement, NoMemory>
     ensures { IfOk result (λ copy. copy ≡ row.now) }
 {
     Ok(row.clone()?)
@@ -112,7 +100,7 @@ impl LowPlanned {
         cycles: CycleLemmas,
     ) -> Result<LowPlanned, NoMemory>
         requires kinds { AreKinds inputs.now.fingers kinds.now }
-        requires wired { IsLeastWired inputs.now row }
+        requires wired { IsLeastWired OfNets inputs.now row }
         requires below { AreBelow inputs.now kinds.now (gaps_of row) cycles }
         ensures { IfOk result (IsPlannedBy inputs.now row) }
     {
@@ -132,7 +120,7 @@ impl LowPlanned {
         Ok(LowPlanned::of_lowest(lowest, row, gaps, cycles))
     }
 
-    // The same by a least row without a cycle: it can be wired.
+    // The same with straight trunks by a least row that can be wired.
     fn by_least(
         alloc: Global,
         inputs: &Inputs,
@@ -140,12 +128,10 @@ impl LowPlanned {
         row: &Arrangement,
     ) -> Result<LowPlanned, NoMemory>
         requires least { IsLeast inputs.now.fingers row.now }
-        requires acyclic { HasNoCycle (placement_of row.now) inputs.now.cell.pins }
+        requires wired { IsWired OfNets inputs.now row.now }
         requires kinds { AreKinds inputs.now.fingers kinds.now }
-        ensures { IfOk result (IsLowPlanned inputs.now row.now) }
+        ensures { IfOk result (IsLowPlanned OfNets inputs.now row.now) }
     {
-        inputs.show_limits();
-        some_routing();
         let wired = copied(row)?;
         let cycles = CycleLemmas::new(alloc);
         let planned = LowPlanned::by_tracks(alloc, inputs, kinds, wired, cycles)?;
@@ -161,9 +147,9 @@ impl LowPlanned {
         ring: Ring,
     ) -> Result<LowPlanned, NoMemory>
         requires least { IsLeast inputs.now.fingers row.now }
-        requires ring { IsRinged inputs.now row.now ring }
+        requires ring { IsRinged OfNets inputs.now row.now ring }
         requires kinds { AreKinds inputs.now.fingers kinds.now }
-        ensures { IfOk result (IsLowPlanned inputs.now row.now) }
+        ensures { IfOk result (IsLowPlanned OfNets inputs.now row.now) }
     {
         let ended = LowWired::of(alloc, inputs, kinds, row)?;
         match ended {
@@ -183,20 +169,47 @@ impl LowPlanned {
         }
     }
 
-    /// The lowest row of the fingers, by a row that has the fewest gaps, with the first of its routings. Where that row
-    /// has a cycle, a search for the rows that can be wired with the fewest gaps comes first: its lemmas on cycles
-    /// certify that none with fewer has a legal routing. Each pass of the two searches keeps no more lemmas than the
-    /// budget, and the second one tries no more trunks on tracks.
-    pub fn of(alloc: Global, inputs: &Inputs, row: &Arrangement) -> Result<LowPlanned, NoMemory>
+    // With straight trunks, by the cycle of the least row, where it has one.
+    fn straight(
+        alloc: Global,
+        inputs: &Inputs,
+        kinds: &Kinds,
+        row: &Arrangement,
+        ring: Option<Ring>,
+    ) -> Result<LowPlanned, NoMemory>
+        requires least { IsLeast inputs.now.fingers row.now }
+        requires ring { MatchOption ring (IsWired OfNets inputs.now row.now) (IsRinged OfNets inputs.now row.now) }
+        requires kinds { AreKinds inputs.now.fingers kinds.now }
+        ensures { IfOk result (IsLowPlanned OfNets inputs.now row.now) }
+    {
+        match ring {
+            None => LowPlanned::by_least(alloc, inputs, kinds, row),
+            Some(ring) => LowPlanned::by_cycles(alloc, inputs, kinds, row, ring),
+        }
+    }
+
+    /// The lowest row of the fingers by this wiring, by a row that has the fewest gaps, with the first of its routings.
+    /// With straight trunks, where that row has a cycle, a search for the rows that can be wired with the fewest gaps
+    /// comes first: its lemmas on cycles certify that none with fewer has a legal routing. With doglegs all rows with
+    /// as few gaps are searched. Each pass of a search keeps no more lemmas than the budget, and the last one tries no
+    /// more trunks on tracks.
+    pub fn of(
+        alloc: Global,
+        inputs: &Inputs,
+        wiring: Wiring,
+        row: &Arrangement,
+    ) -> Result<LowPlanned, NoMemory>
         requires { IsLeast inputs.now.fingers row.now }
-        ensures { IfOk result (IsLowPlanned inputs.now row.now) }
+        ensures planned { IfOk result (IsLowPlanned wiring inputs.now row.now) }
+        // without a cycle the row can be drawn
+        ensures routed { IfOk result (λ _. CanBeRouted wiring inputs.now row.now) }
     {
         inputs.show_limits();
         let kinds = kinds(alloc, &inputs.fingers)?;
-        let found = ring_of(alloc, inputs, row)?;
-        match found {
-            None => LowPlanned::by_least(alloc, inputs, &kinds, row),
-            Some(ring) => LowPlanned::by_cycles(alloc, inputs, &kinds, row, ring),
+        let ring = ring_of(alloc, inputs, wiring, row)?;
+        match wiring {
+            Wiring::Straight => LowPlanned::straight(alloc, inputs, &kinds, row, ring),
+            Wiring::Doglegs => by_pieces(alloc, inputs, &kinds, row, ring),
         }
     }
 }

@@ -3,8 +3,8 @@ ghost use Rattle.row_state.specs.Start.{AreKinds};
 ghost use Rattle.row_needs.specs.Bound.{IsBoundOf, value_by};
 ghost use Rattle.row_cycles.specs.Fits.{CycleFits};
 ghost use Rattle.cycle_search.specs.Search.{HasReason, IsEnd, lemmas_in};
-ghost use Rattle.cell_make.specs.Low.{IsLeast};
 ghost use Rattle.cell_make.specs.LowEnded.{nothing_at, unwired_at};
+ghost use Rattle.cell_make.specs.LowRows.{IsLeast};
 ghost use Rattle.cell_make.specs.LowWired.{IsWiredEnd};
 
 use cell_inputs::Inputs;

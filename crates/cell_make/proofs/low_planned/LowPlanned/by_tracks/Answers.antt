@@ -2,7 +2,7 @@ use Rattle.std.proofs.Common.{arith, subst, sym}
 use Rattle.cell_num.specs.Pins.{ArePins}
 use Rattle.cell_inputs.specs.Inputs.{AreInputs, Inputs, inputs_of}
 use Rattle.track_search.specs.Lowest.{HavePins}
-use Rattle.cell_make.proofs.LowRows.{planned_so}
+use Rattle.cell_make.proofs.LowTracks.{planned_so}
 use Rattle.cell_make.proofs.Makes.{few_columns}
 use Rattle.cell_make.proofs.low_planned.LowPlanned.by_tracks.Goals as goal
 

@@ -1,4 +1,4 @@
-use Rattle.std.proofs.Common.{◌≤◌, ◌≡◌, All, arith, length, subst}
+use Rattle.std.proofs.Common.{◌≤◌, All, arith, length, subst}
 use Rattle.row_needs.specs.Bound.{value_by}
 use Rattle.row_cycles.specs.Certificate.{Certifies}
 use Rattle.row_cycles.specs.Fits.{CycleFits}
