@@ -32,7 +32,11 @@ mod given_rows;
 #[cfg(test)]
 mod logs;
 #[cfg(test)]
+mod low_calls;
+#[cfg(test)]
 mod low_cells;
+#[cfg(test)]
+mod low_doglegs;
 #[cfg(test)]
 mod low_rows;
 #[cfg(test)]
@@ -53,6 +57,8 @@ mod track_checks;
 mod trail_cells;
 #[cfg(test)]
 mod trails;
+#[cfg(test)]
+mod turn_checks;
 #[cfg(test)]
 mod versions;
 #[cfg(test)]

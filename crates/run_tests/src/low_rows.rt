@@ -1,10 +1,9 @@
-// Cells that are made from their lowest row, which is a least one. Another program, written after the definitions,
-// listed the rows in order, the fewest tracks of each, and the size.
-use crate::calls::{End, Left, Said, ends};
+// Cells that are made from their lowest row, which is a least one.
+use crate::calls::{Left, Said};
+use crate::low_calls::{CELL, Case, EVIDENCE, TRAIL_CELL, all_end};
 use crate::make::CROSS;
-use crate::setup::{INVERTER, inputs};
+use crate::setup::INVERTER;
 use cell_run::Status;
-use std::alloc::Global;
 use std::test::Fail;
 
 // The first least row of this multiplexer needs six tracks, the forty-first four.
@@ -22,7 +21,7 @@ MN2 y s n2 gnd n W=3u L=0.6u
 .ENDS
 ";
 
-const MUX_MADE: &str = "status 0 ok
+pub const MUX_MADE: &str = "status 0 ok
 cell mux2
 columns 5
 gaps 2
@@ -38,7 +37,7 @@ size 167 196
 lemmas ";
 
 // The first least row has a cycle, the second is wired.
-const CROSS_MADE: &str = "status 0 ok
+pub const CROSS_MADE: &str = "status 0 ok
 cell cross
 columns 2
 gaps 1
@@ -59,7 +58,7 @@ M4 x b x gnd n W=1.5u L=0.6u
 .ENDS
 ";
 
-const INVERTER_ROW: &str = "status 0 ok
+pub const INVERTER_ROW: &str = "status 0 ok
 cell inv
 columns 1
 gaps 0
@@ -71,33 +70,22 @@ size 41 118
 lemmas 0
 ";
 
-const LOG: &[u8] = b"cellgen-log 2\ncell inv\ngaps 0\ncolumn 0 0 0 0 0\nend\n";
+pub const INVERTER_LOG: &[u8] = b"cellgen-log 2\ncell inv\ngaps 0\ncolumn 0 0 0 0 0\nend\n";
 
-const TRAILS: &[u8] =
+pub const INVERTER_TRAILS: &[u8] =
     b"cellgen-trails 1\ncell inv\nfill -\norder 0\ngaps 0\ncolumn 0 0 0 0 0\nend\n";
 
 const TRACKS: &[u8] = b"cellgen-tracks 1\ncell inv\ngaps 0\ntracks 1\nlemma 0 1 1 - - -\nend\n";
 
-// A call: the technology, the subcircuits, the words, the end, and what it leaves of the log, of the certificate by
-// trails, of that of the tracks, of the drawing and of the abstract.
-struct Case {
-    tech: &'static str,
-    spice: &'static str,
-    words: &'static str,
-    status: Status,
-    said: Said<'static>,
-    left: [Left<'static>; 5],
-}
-
 const CASES: [Case; 8] = [
     Case {
         tech: "",
-        spice: INVERTER,
+        spice: &[INVERTER],
         words: "make - c.sp inv out --low",
         status: Status::Done,
         said: Said::Whole(&[INVERTER_ROW]),
         left: [
-            Left::Bytes(LOG),
+            Left::Bytes(INVERTER_LOG),
             Left::Nothing,
             Left::Bytes(TRACKS),
             Left::Length(2122),
@@ -106,13 +94,13 @@ const CASES: [Case; 8] = [
     },
     Case {
         tech: "",
-        spice: INVERTER,
+        spice: &[INVERTER],
         words: "make - c.sp inv out --low --trails",
         status: Status::Done,
         said: Said::Whole(&[INVERTER_ROW, "filled 0\n"]),
         left: [
             Left::Nothing,
-            Left::Bytes(TRAILS),
+            Left::Bytes(INVERTER_TRAILS),
             Left::Bytes(TRACKS),
             Left::Length(2122),
             Left::Length(997),
@@ -120,68 +108,44 @@ const CASES: [Case; 8] = [
     },
     Case {
         tech: "",
-        spice: MUX,
+        spice: &[MUX],
         words: "make - c.sp mux2 out --low",
         status: Status::Done,
         said: Said::First(MUX_MADE),
-        left: [
-            Left::Something,
-            Left::Nothing,
-            Left::Something,
-            Left::Something,
-            Left::Something,
-        ],
+        left: CELL,
     },
     Case {
         tech: "",
-        spice: MUX,
+        spice: &[MUX],
         words: "make - c.sp mux2 out --taps --low --trails",
         status: Status::Done,
         said: Said::First(MUX_MADE),
-        left: [
-            Left::Nothing,
-            Left::Something,
-            Left::Something,
-            Left::Something,
-            Left::Something,
-        ],
+        left: TRAIL_CELL,
     },
     Case {
         tech: "",
-        spice: CROSS,
+        spice: &[CROSS],
         words: "make - c.sp cross out --low",
         status: Status::Done,
         said: Said::First(CROSS_MADE),
-        left: [
-            Left::Something,
-            Left::Nothing,
-            Left::Something,
-            Left::Something,
-            Left::Something,
-        ],
+        left: CELL,
     },
     Case {
         tech: "",
-        spice: RING,
+        spice: &[RING],
         words: "make - c.sp ring out --low",
         status: Status::Cycle,
         said: Said::Whole(&["status 5 cycle\nx above y at line 0\ny above x at line 4\n"]),
-        left: [
-            Left::Something,
-            Left::Nothing,
-            Left::Something,
-            Left::Nothing,
-            Left::Nothing,
-        ],
+        left: EVIDENCE,
     },
     Case {
         tech: "height = 117",
-        spice: INVERTER,
+        spice: &[INVERTER],
         words: "make t.toml c.sp inv out --low",
         status: Status::TooTall,
         said: Said::Whole(&["status 11 tall\nfewest 1\nneeded 118\ngiven 117\n"]),
         left: [
-            Left::Bytes(LOG),
+            Left::Bytes(INVERTER_LOG),
             Left::Nothing,
             Left::Bytes(TRACKS),
             Left::Nothing,
@@ -190,7 +154,7 @@ const CASES: [Case; 8] = [
     },
     Case {
         tech: "budget = 1",
-        spice: INVERTER,
+        spice: &[INVERTER],
         words: "make t.toml c.sp inv out --low --trails",
         status: Status::Unfinished,
         said: Said::Whole(&["status 6 unfinished\nproved 0\nlemmas 0\n"]),
@@ -204,29 +168,7 @@ const CASES: [Case; 8] = [
     },
 ];
 
-fn is_so(alloc: Global, case: &Case) -> Result<bool, Fail> {
-    let [log, trails, tracks, gds, lef] = case.left;
-    let files = [
-        ("out.clog", log),
-        ("out.ctrail", trails),
-        ("out.ctrack", tracks),
-        ("out.gds", gds),
-        ("out.lef", lef),
-    ];
-    let end = End {
-        status: case.status,
-        said: case.said,
-        files: &files,
-    };
-    let given = inputs([case.tech, case.spice, ""]);
-    ends(alloc, case.words, &given, &[], &end)
-}
-
 #[test]
 fn makes_the_lowest_row(rt: HostRuntime) -> Result<(), Fail> {
-    for case in &CASES {
-        let words = case.words;
-        assert!(rt; is_so(rt.alloc(), case)?, "{words}");
-    }
-    Ok(())
+    all_end(rt.alloc(), &CASES)
 }

@@ -23,7 +23,7 @@ plan TECH SPICE CELL --trails
 check TECH SPICE CELL FILE --trails
 make TECH SPICE CELL OUT [--dogleg] [--taps] --trails
 make TECH SPICE CELL OUT [--dogleg] [--taps] [--trails] --from FILE
-make TECH SPICE CELL OUT [--taps] --low [--trails]
+make TECH SPICE CELL OUT [--dogleg] [--taps] --low [--trails]
 check TECH SPICE CELL FILE --low
 row TECH SPICE OUT TOP CELL CELL .. --low
 ";
@@ -100,7 +100,7 @@ const CALLS: [(&str, Status, &str); 29] = [
         Status::Usage,
         USAGE,
     ),
-    ("make - c.sp inv out --dogleg --low", Status::Usage, USAGE),
+    ("make - c.sp inv out --low --dogleg", Status::Usage, USAGE),
     ("make - c.sp inv out --low --taps", Status::Usage, USAGE),
     ("make - c.sp inv out --trails --low", Status::Usage, USAGE),
     (
