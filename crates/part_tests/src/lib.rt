@@ -36,6 +36,8 @@ mod numbers;
 #[cfg(test)]
 mod piece_drawings;
 #[cfg(test)]
+mod piece_firsts;
+#[cfg(test)]
 mod pieces;
 #[cfg(test)]
 mod pin_places;

@@ -38,27 +38,27 @@ fn routed(alloc: Global, columns: &[Column], vdd: u32) -> Result<PieceRouting, P
 }
 
 // Pins s0 s1 vdd gnd, a cycle of trunks: at line 2 the N place of s0 goes up to track 1, its P place down to track 0.
-const RING: &str = "Ok(PieceRouting { tracks: 3, pieces: List { items: [\
+pub const RING: &str = "Ok(PieceRouting { tracks: 3, pieces: List { items: [\
     Trunk { net: NetNo(0), left: 0, right: 2, track: 2 }, \
     Trunk { net: NetNo(0), left: 2, right: 4, track: 0 }, \
     Trunk { net: NetNo(1), left: 0, right: 4, track: 1 }] } })";
 
 // Pins s0 s1 s2 vdd gnd: trunks need 3 tracks.
-const FEWER: &str = "Ok(PieceRouting { tracks: 2, pieces: List { items: [\
+pub const FEWER: &str = "Ok(PieceRouting { tracks: 2, pieces: List { items: [\
     Trunk { net: NetNo(0), left: 0, right: 0, track: 0 }, \
     Trunk { net: NetNo(1), left: 4, right: 4, track: 1 }, \
     Trunk { net: NetNo(2), left: 0, right: 2, track: 1 }, \
     Trunk { net: NetNo(2), left: 2, right: 4, track: 0 }] } })";
 
 // Pins s0 s1 vdd gnd: trunks need 2 tracks.
-const MORE: &str = "Ok(PieceRouting { tracks: 3, pieces: List { items: [\
+pub const MORE: &str = "Ok(PieceRouting { tracks: 3, pieces: List { items: [\
     Trunk { net: NetNo(0), left: 1, right: 6, track: 1 }, \
     Trunk { net: NetNo(1), left: 0, right: 2, track: 0 }, \
     Trunk { net: NetNo(1), left: 2, right: 4, track: 0 }, \
     Trunk { net: NetNo(1), left: 4, right: 6, track: 2 }] } })";
 
 // Pins s1 vdd gnd, and the inner net 3: no net is above another, and net 3 is on two tracks.
-const APART: &str = "Ok(PieceRouting { tracks: 2, pieces: List { items: [\
+pub const APART: &str = "Ok(PieceRouting { tracks: 2, pieces: List { items: [\
     Trunk { net: NetNo(0), left: 0, right: 2, track: 0 }, \
     Trunk { net: NetNo(3), left: 1, right: 4, track: 1 }, \
     Trunk { net: NetNo(3), left: 4, right: 5, track: 0 }] } })";

@@ -8,7 +8,7 @@ use row_state::{Component, Kinds, kinds, start};
 use std::alloc::Global;
 use std::test::Fail;
 use track_check::{TracksRefused, check_tracks};
-use track_log::{read_tracks, write_tracks};
+use track_log::{Course, read_tracks_by, write_tracks_by};
 use track_ways::{NetTracks, TrackLemma, TrackLemmas};
 
 const PINS: Pins = Pins {
@@ -49,31 +49,46 @@ fn needs_a_track_and_no_more(rt: HostRuntime) -> Result<(), Fail> {
     Ok(())
 }
 
-// Whether the text is that of a certificate, and is written so again.
-fn is_kept(alloc: Global, text: &[u8]) -> Result<bool, Fail>
+// Whether the text is that of a certificate of that course, and is written so again.
+fn is_kept(alloc: Global, course: Course, text: &[u8]) -> Result<bool, Fail>
     requires { length text.now ≤ 1000 }
 {
     let rows = fingers(alloc, 4, &INVERTER)?;
     let kinds = kinds(alloc, &rows)?;
     let name = copy(alloc, b"inv")?;
-    match read_tracks(alloc, text, &name, &kinds) {
-        Ok(certificate) => Ok(write_tracks(alloc, &name, &certificate)?.as_slice() == text),
+    match read_tracks_by(alloc, course, text, &name, &kinds) {
+        Ok(certificate) => {
+            Ok(write_tracks_by(alloc, course, &name, &certificate)?.as_slice() == text)
+        }
         Err(_) => Ok(false),
     }
 }
 
 // One lemma speaks of all rows, and of no track at all; then the largest numbers, and lemmas on cycles.
-const TEXTS: [&[u8]; 3] = [
-    b"cellgen-tracks 1\ncell inv\ngaps 0\ntracks 1\nlemma 0 1 1 - - -\nend\n",
-    b"cellgen-tracks 1\ncell inv\ngaps 63\ntracks 256\nlemma 3 0 0 1 1 0:0,1:255\nlemma 12 0 0 - 3 1:10\nend\n",
-    b"cellgen-tracks 1\ncell inv\ngaps 0\ntracks 2\ncycle 0 1 1 - - -\ncycle 3 0 0 1 1 1>3,3>1\n\
-      lemma 3 0 0 1 1 0:0\nend\n",
+const TEXTS: [(Course, &[u8]); 4] = [
+    (
+        Course::Straight,
+        b"cellgen-tracks 1\ncell inv\ngaps 0\ntracks 1\nlemma 0 1 1 - - -\nend\n",
+    ),
+    (
+        Course::Straight,
+        b"cellgen-tracks 1\ncell inv\ngaps 63\ntracks 256\nlemma 3 0 0 1 1 0:0,1:255\nlemma 12 0 0 - 3 1:10\nend\n",
+    ),
+    (
+        Course::Straight,
+        b"cellgen-tracks 1\ncell inv\ngaps 0\ntracks 2\ncycle 0 1 1 - - -\ncycle 3 0 0 1 1 1>3,3>1\n\
+          lemma 3 0 0 1 1 0:0\nend\n",
+    ),
+    (
+        Course::Turning,
+        b"cellgen-tracks 2\ncell inv\ngaps 0\ntracks 1\nlemma 0 1 1 - - -\nend\n",
+    ),
 ];
 
 #[test]
 fn keeps_texts(rt: HostRuntime) -> Result<(), Fail> {
-    for text in &TEXTS {
-        assert!(rt; text.len() <= 1000 && is_kept(rt.alloc(), text)?);
+    for (course, text) in &TEXTS {
+        assert!(rt; text.len() <= 1000 && is_kept(rt.alloc(), *course, text)?);
     }
     Ok(())
 }
