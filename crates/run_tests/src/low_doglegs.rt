@@ -48,6 +48,20 @@ fewest 2
 size 98 134
 lemmas ";
 
+// The first least row, on the tracks that `make` gives it with doglegs alone.
+const TURN_OPEN: &str = "status 0 ok
+cell turn
+columns 3
+gaps 1
+width 4
+column 0 gate a p m m 20 n gnd k 10
+column 1 gate b p m k 20 n k gnd 10
+column 2 gate c p y y 20 n m gnd 10
+tracks 3
+fewest 2
+size 98 150
+lemmas ";
+
 // `make` with doglegs alone takes four tracks.
 const DOG_MADE: &str = "status 0 ok
 cell dog
@@ -67,7 +81,7 @@ const RING_OPEN: &str =
 
 const TRACKS: &[u8] = b"cellgen-tracks 2\ncell inv\ngaps 0\ntracks 1\nlemma 0 1 1 - - -\nend\n";
 
-const CASES: [Case; 11] = [
+const CASES: [Case; 12] = [
     Case {
         tech: "",
         spice: &[TURN],
@@ -99,6 +113,14 @@ const CASES: [Case; 11] = [
         status: Status::TooTall,
         said: Said::Whole(&["status 11 tall\nfewest 2\nneeded 134\ngiven 133\n"]),
         left: EVIDENCE,
+    },
+    Case {
+        tech: "budget = 8",
+        spice: &[TURN],
+        words: "make t.toml c.sp turn out --dogleg --low",
+        status: Status::Done,
+        said: Said::First(TURN_OPEN),
+        left: CELL,
     },
     Case {
         tech: "",
