@@ -191,15 +191,16 @@ def unwired(made, tech, words):
     same("the files", {**files, "ctrack": b""}, {**old, "ctrack": b""})
 
 
-def ringed(made, tech, words):
-    """Nets may turn, and no row is known that can be wired: a cycle of the first least row, and what is proved of all."""
+def ringed(made, tech, words, is_whole=False):
+    """Nets may turn, and no row is known that can be wired: a cycle of the first least row, and what is proved of all. With
+    the whole budget no row takes fewer tracks than there are nets."""
     found = made.found
     said, files = made.make(tech, "low", *words)
     plain, old = made.make(tech, "make", *(word for word in words if word != "--low"))
     same("the report", [said[0], *said[2:], plain[0]], ["status 6 unfinished", *plain[1:], "status 5 cycle"])
     made.evidence(tech, files, words, made.first)
     proved = int(files["ctrack"].decode("latin-1").splitlines()[3].split()[1]) if "ctrack" in files else 0
-    same("the line of the tracks", said[1], f"fewest {proved}")
+    same("the line of the tracks", said[1], f"fewest {len(made.cell.nets) if is_whole else proved}")
     if found.row is not None and proved > found.tracks:
         raise Differs(f"{proved} tracks are proved, and {found.tracks} are the fewest")
     made.tracks_proved(tech, files, found.gaps, proved)
@@ -276,7 +277,7 @@ def differences(made, draw):
     def words():
         return [*made.course.words, *draw.choice((["--taps"], [])), "--low", *draw.choice((["--trails"], []))]
     if made.found.row is None and made.course == TURNING:
-        yield ringed(made, "-", words())
+        yield ringed(made, "-", words(), is_whole=True)
     elif made.found.row is None:
         unwired(made, "-", words())
         yield "no row wired"

@@ -7,7 +7,6 @@ use crate::low_rows::{
 };
 use crate::make::CROSS;
 use crate::setup::INVERTER;
-use crate::track_checks::is_checked;
 use cell_run::Status;
 use std::test::Fail;
 
@@ -75,13 +74,13 @@ fewest 3
 size 85 150
 lemmas ";
 
-// In each row of its cell these pieces are above each other.
+// In each row of its cell these pieces are above each other. It has six nets.
 const RING_OPEN: &str =
     "\nx from line 2 above y from line 2 at line 2\ny from line 2 above x from line 2 at line 4\n";
 
 const TRACKS: &[u8] = b"cellgen-tracks 2\ncell inv\ngaps 0\ntracks 1\nlemma 0 1 1 - - -\nend\n";
 
-const CASES: [Case; 12] = [
+const CASES: [Case; 13] = [
     Case {
         tech: "",
         spice: &[TURN],
@@ -148,6 +147,14 @@ const CASES: [Case; 12] = [
         left: CELL,
     },
     Case {
+        tech: "",
+        spice: &[RING],
+        words: "make - c.sp ring out --dogleg --low",
+        status: Status::Unfinished,
+        said: Said::Whole(&["status 6 unfinished\nfewest 6", RING_OPEN]),
+        left: EVIDENCE,
+    },
+    Case {
         tech: "budget = 20",
         spice: &[RING],
         words: "make t.toml c.sp ring out --dogleg --low",
@@ -196,51 +203,4 @@ const CASES: [Case; 12] = [
 #[test]
 fn makes_the_lowest_row_with_doglegs(rt: HostRuntime) -> Result<(), Fail> {
     all_end(rt.alloc(), &CASES)
-}
-
-// A call that leaves evidence, the file of it, a call that checks this file, and its report.
-const CHECKED: [(&str, &str, Status, &str, &str, &str); 4] = [
-    (
-        TURN,
-        "make - c.sp turn out --dogleg --low",
-        Status::Done,
-        "out.ctrack",
-        "check - c.sp turn l.clog --low",
-        "status 0 ok\ncell turn\ngaps 1\nfewest-dogleg 2\n",
-    ),
-    (
-        TURN,
-        "make - c.sp turn out --low",
-        Status::Done,
-        "out.ctrack",
-        "check - c.sp turn l.clog --low",
-        "status 0 ok\ncell turn\ngaps 1\nfewest 3\n",
-    ),
-    (
-        MUX,
-        "make - c.sp mux2 out --dogleg --taps --low",
-        Status::Done,
-        "out.ctrack",
-        "check - c.sp mux2 l.clog --low",
-        "status 0 ok\ncell mux2\ngaps 2\nfewest-dogleg 4\n",
-    ),
-    (
-        DOG,
-        "make - c.sp dog out --dogleg --low --trails",
-        Status::Done,
-        "out.ctrack",
-        "check - c.sp dog l.clog --low",
-        "status 0 ok\ncell dog\ngaps 1\nfewest-dogleg 3\n",
-    ),
-];
-
-#[test]
-fn certifies_tracks_with_doglegs(rt: HostRuntime) -> Result<(), Fail> {
-    for (spice, make, status, name, check, said) in &CHECKED {
-        assert!(rt;
-            is_checked(rt.alloc(), ["", spice], [make, name, check, said], *status)?,
-            "{check}"
-        );
-    }
-    Ok(())
 }

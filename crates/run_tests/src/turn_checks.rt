@@ -1,8 +1,11 @@
-// Certificates of tracks where nets may change theirs. Another program, written after the definitions, made and judged
-// these: of nets that may turn, and of nets that go straight.
+// Checks of certificates of tracks where nets may change theirs. Another program, written after the definitions, made
+// and judged the first ones: of nets that may turn, and of nets that go straight.
 use crate::calls::{End, Said, ends};
+use crate::doglegs::DOG;
 use crate::low_doglegs::TURN;
+use crate::low_rows::{MUX, RING};
 use crate::setup::{are_usage, inputs, joined};
+use crate::track_checks::is_checked;
 use cell_run::Status;
 use std::alloc::Global;
 use std::test::Fail;
@@ -91,6 +94,61 @@ fn is_judged(alloc: Global, parts: &[&str], status: Status, said: &str) -> Resul
 fn checks_certificates_with_doglegs(rt: HostRuntime) -> Result<(), Fail> {
     for (parts, status, said) in &JUDGED {
         assert!(rt; is_judged(rt.alloc(), parts, *status, said)?, "{said}");
+    }
+    Ok(())
+}
+
+// A call that leaves evidence, the file of it, a call that checks this file, and its report.
+const CHECKED: [(&str, &str, Status, &str, &str, &str); 5] = [
+    (
+        TURN,
+        "make - c.sp turn out --dogleg --low",
+        Status::Done,
+        "out.ctrack",
+        "check - c.sp turn l.clog --low",
+        "status 0 ok\ncell turn\ngaps 1\nfewest-dogleg 2\n",
+    ),
+    (
+        TURN,
+        "make - c.sp turn out --low",
+        Status::Done,
+        "out.ctrack",
+        "check - c.sp turn l.clog --low",
+        "status 0 ok\ncell turn\ngaps 1\nfewest 3\n",
+    ),
+    (
+        MUX,
+        "make - c.sp mux2 out --dogleg --taps --low",
+        Status::Done,
+        "out.ctrack",
+        "check - c.sp mux2 l.clog --low",
+        "status 0 ok\ncell mux2\ngaps 2\nfewest-dogleg 4\n",
+    ),
+    (
+        RING,
+        "make - c.sp ring out --dogleg --low",
+        Status::Unfinished,
+        "out.ctrack",
+        "check - c.sp ring l.clog --low",
+        "status 0 ok\ncell ring\ngaps 1\nfewest-dogleg 6\n",
+    ),
+    (
+        DOG,
+        "make - c.sp dog out --dogleg --low --trails",
+        Status::Done,
+        "out.ctrack",
+        "check - c.sp dog l.clog --low",
+        "status 0 ok\ncell dog\ngaps 1\nfewest-dogleg 3\n",
+    ),
+];
+
+#[test]
+fn certifies_tracks_with_doglegs(rt: HostRuntime) -> Result<(), Fail> {
+    for (spice, make, status, name, check, said) in &CHECKED {
+        assert!(rt;
+            is_checked(rt.alloc(), ["", spice], [make, name, check, said], *status)?,
+            "{check}"
+        );
     }
     Ok(())
 }
