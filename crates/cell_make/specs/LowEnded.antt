@@ -1,5 +1,5 @@
 -- What the searches for the lowest row ended with, as the certificate of its gaps and tracks.
-use Rattle.std.specs.Prelude.{ℕ, false, List, [], Option, Some, None}
+use Rattle.std.specs.Prelude.{ℕ, ◌+◌, false, List, [], Option, Some, None}
 use Rattle.row_cycles.specs.declared.lemma.CycleLemma.{CycleLemma}
 use Rattle.channel_route.specs.declared.ring.Ring.{Ring}
 use Rattle.track_search.specs.declared.lowest.Lowest.{Lowest}
@@ -9,6 +9,8 @@ use Rattle.piece_search.specs.declared.lowest.LowestPieces.TheVariants as pieces
 use Rattle.row_model.specs.declared.column.Column.{Column}
 use Rattle.dogleg_route.specs.Routings.{as_routing}
 use Rattle.track_log.specs.declared.certificate.TrackCertificate.{TrackCertificate}
+use Rattle.cell_inputs.specs.Inputs.{Inputs}
+use Rattle.cell_make.specs.declared.low_pieces.TheConstants.{MOST_ROUTED}
 use Rattle.cell_make.specs.declared.low_planned.LowPlanned.{LowPlanned}
 use Rattle.cell_make.specs.declared.low_planned.LowPlanned.TheVariants as planned
 
@@ -26,6 +28,12 @@ unwired_at cycles gaps nets = record { gaps = gaps; tracks = nets; cycles = cycl
 -- nothing is known of the tracks
 abbrev pub nothing_at : (gaps : ℕ) → TrackCertificate
 nothing_at gaps = record { gaps = gaps; tracks = 0; cycles = []; lemmas = [] }
+
+-- the search by tracks of pieces is for a row on fewer tracks than these: where a least row can be wired one more than a
+-- routing can have, else as many as the cell has nets
+abbrev pub most_tracks : Inputs → Option Ring → ℕ
+most_tracks inputs None = MOST_ROUTED + 1
+most_tracks inputs (Some ring) = inputs.fingers.nets
 
 -- where the search is open: a least row that can be wired, or its cycle
 abbrev pub open_by : Option Ring → (row : List Column) → TrackCertificate → LowPlanned

@@ -44,13 +44,13 @@ pub record IsWiredSpent (inputs : Inputs) (certificate : TrackCertificate) : Typ
 
 -- ---- with doglegs
 
--- The search goes over the least rows alone: none of them can be wired, or the budget is spent, by the lemmas or by the
--- tries on the tracks of the certificate.
+-- The search goes over the least rows alone, on fewer tracks than the cell has nets: none of them can be wired so, or
+-- the budget is spent, by the lemmas or by the tries on the tracks of the certificate.
 pub record IsLeastOpen (inputs : Inputs) (certificate : TrackCertificate) : Type 0 where
   pub row : List Column
   pub least : IsLeast inputs.fingers row
   pub gaps : gaps_of row ≡ certificate.gaps
-  pub unwired : NoneIsWiredWithin Doglegs inputs certificate.gaps ⊎ IsLowestSpent Doglegs inputs certificate
+  pub unwired : (certificate.tracks ≡ inputs.fingers.nets) ⊎ IsLowestSpent Doglegs inputs certificate
 
 -- ---- by the wiring
 

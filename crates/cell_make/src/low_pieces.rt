@@ -3,7 +3,7 @@ ghost use Rattle.std.specs.Prelude.{◌≡◌, IfOk, MatchOption};
 ghost use Rattle.row_state.specs.Start.{AreKinds};
 ghost use Rattle.cell_inputs.specs.declared.style.Wiring.TheVariants.{Doglegs as OfPieces};
 ghost use Rattle.cell_make.specs.Low.{IsLowPlanned};
-ghost use Rattle.cell_make.specs.LowEnded.{open_by, pieces_planned_by};
+ghost use Rattle.cell_make.specs.LowEnded.{most_tracks, open_by, pieces_planned_by};
 ghost use Rattle.cell_make.specs.LowRows.{IsLeast, IsRinged, IsWired};
 
 use crate::low_planned::{LowPlanned, copied};
@@ -88,8 +88,19 @@ fn of_lowest(
     }
 }
 
+// The search is for a row on fewer tracks. Where the least row can be wired, no routing has as many. Else a search
+// without such a limit might go on until its budget is spent, each number of tracks slower than the one before.
+fn most_tracks(inputs: &Inputs, ring: &Option<Ring>) -> u32
+    ensures { result ≡ most_tracks inputs.now ring.now }
+{
+    match ring {
+        None => MOST_ROUTED + 1,
+        Some(_) => inputs.fingers.nets,
+    }
+}
+
 /// The lowest row with doglegs, by the cycle of pieces of a least row, where it has one. All rows with as few gaps are
-/// searched: another one may have none.
+/// searched: another one may have none. Then only rows on fewer tracks than the cell has nets are looked for.
 pub(crate) fn by_pieces(
     alloc: Global,
     inputs: &Inputs,
@@ -106,13 +117,14 @@ pub(crate) fn by_pieces(
     kinds.show_limits();
     sound_pins();
     let gaps = gaps(row);
+    let most = most_tracks(inputs, &ring);
     let lowest = lowest_pieces(
         alloc,
         &Component,
         &inputs.cell.pins,
         kinds,
         gaps,
-        MOST_ROUTED + 1,
+        most,
         inputs.budget(),
     )?;
     of_lowest(alloc, lowest, ring, row, gaps)

@@ -18,8 +18,8 @@ lowest_pieces-requires c =
 
 pub returns : goal.returns
 returns c =
-    pieces_so c.args.inputs.now (inputs_of c.inputs.inside.tech c.inputs.inside.cell c.inputs.inside.fingers) c.args.kinds.now c.gaps-gaps.result c.budget.result c.args.row.now c.args.ring
-    c.in_ok-lowest.lowest c.of_lowest.result c.inputs.view_is c.budget.ensures.is c.show_limits.ensures c.requires.kinds c.show_limits-2.ensures c.requires.least c.gaps-gaps.ensures c.requires.ring
+    pieces_so c.args.inputs.now (inputs_of c.inputs.inside.tech c.inputs.inside.cell c.inputs.inside.fingers) c.args.kinds.now c.gaps-gaps.result c.most_tracks-most.result c.budget.result c.args.row.now c.args.ring
+    c.in_ok-lowest.lowest c.of_lowest.result c.inputs.view_is c.most_tracks-most.ensures c.budget.ensures.is c.show_limits.ensures c.requires.kinds c.show_limits-2.ensures c.requires.least c.gaps-gaps.ensures c.requires.ring
     (record {
       arranges = c.in_ok-lowest.ensures.arranges;
       placed = c.in_ok-lowest.ensures.placed;
@@ -30,7 +30,7 @@ returns c =
       certified = c.in_ok-lowest.ensures.certified;
       fits = c.in_ok-lowest.ensures.fits;
       kept = c.in_ok-lowest.ensures.kept;
-      most = c.in_ok-lowest.ensures.most;
+      few = c.in_ok-lowest.ensures.most;
       spent = c.in_ok-lowest.ensures.open;
     })
     c.of_lowest.ensures
