@@ -47,7 +47,7 @@ few_gaps k f gaps of_f kinds low =
     let c : (row : List Column) × Completes k (start_of k) row = completion_exists k (start_of k) (gates_are_nets k kinds) in
     omega (arith, low c.0 (arrangement_of f k c.0 of_f c.1), gaps_from_start k c.0, further_le (start_of k) c.0, c.1.fewest, kinds.few_columns)
 
-row_gaps : (row : List Column) → length row ≤ 32 → gaps_of row ≤ 31
+pub row_gaps : (row : List Column) → length row ≤ 32 → gaps_of row ≤ 31
 row_gaps [] few = omega arith
 row_gaps (c ∷ cs) few = omega (arith, few, count_by-le-length is_gap (zip (c ∷ cs) cs), length-zip (c ∷ cs) cs)
 

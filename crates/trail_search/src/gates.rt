@@ -108,7 +108,7 @@ fn others(alloc: Global, gates: &[NetNo], some: &[NetNo]) -> Result<Vec<NetNo>, 
 
 /// The gates with half columns that are left open, since they have too many ways: those with more fingers in the row
 /// of the first of them.
-pub(crate) fn opened(alloc: Global, fingers: &Fingers, order: &NetList) -> Result<NetList, NoMemory>
+pub fn opened(alloc: Global, fingers: &Fingers, order: &NetList) -> Result<NetList, NoMemory>
     requires { AreFingers fingers.now }
     ensures { IfOk result (λ gates. gates ≡ opened_gates fingers.now order.now) }
 {

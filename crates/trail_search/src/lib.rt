@@ -22,5 +22,5 @@ mod visit;
 pub use first::{ListedRow, first_row};
 pub use found::{TrailFound, TrailStop};
 pub use gate_order::order;
-pub use gates::fill;
+pub use gates::{fill, opened};
 pub use search::search_trails;
