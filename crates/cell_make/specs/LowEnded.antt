@@ -29,8 +29,8 @@ unwired_at cycles gaps nets = record { gaps = gaps; tracks = nets; cycles = cycl
 abbrev pub nothing_at : (gaps : ℕ) → TrackCertificate
 nothing_at gaps = record { gaps = gaps; tracks = 0; cycles = []; lemmas = [] }
 
--- the search by tracks of pieces is for a row on fewer tracks than these: where a least row can be wired one more than a
--- routing can have, else as many as the cell has nets
+-- the search by tracks of pieces is for a row on fewer tracks than these: where a least row can be wired, one more than
+-- a routing can have, else as many as the cell has nets
 abbrev pub most_tracks : Inputs → Option Ring → ℕ
 most_tracks inputs None = MOST_ROUTED + 1
 most_tracks inputs (Some ring) = inputs.fingers.nets

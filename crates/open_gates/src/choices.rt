@@ -140,7 +140,7 @@ fn merged_choices(
     edges_of(alloc, ways.as_slice())
 }
 
-/// The choices of a gate: those of one that is left open are one. None where it isn't left open and has more than `most`
+/// The choices of a gate: one that is left open has one. None where it isn't left open and has more than `most`
 /// ways to pair the fingers of its first columns.
 #[tactic(auto, using(crate::proofs::Closed::choices_rules))]
 pub(crate) fn choices_within(

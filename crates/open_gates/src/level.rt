@@ -118,7 +118,7 @@ pub fn filled_levels_within(
     }
 }
 
-/// The levels of an order of gates, some of them left open, where no other has more than `most` ways to pair the fingers
+/// The levels of an order of gates, some of them left open, where no other has more than `most` ways to pair fingers
 /// of its first columns. It stops at the first other gate that has more. Each level has at most 65,536 nodes.
 #[tactic(auto, using(crate::proofs::Closed::open_rules))]
 pub fn open_levels_within(

@@ -36,7 +36,8 @@ fn open_levels(
     ensures is { IfOk result (λ levels.
         levels ≡ levels_in fingers.now (open_in fingers.now fill.now order.now) order.now) }
     ensures nodes { IfOk result (All HasFewNodes) }
-    ensures few_ways { IfOk result (λ _. first_with_many fingers.now (closed_in fingers.now fill.now order.now) ≡ None) }
+    ensures few_ways { IfOk result (λ _.
+        first_with_many fingers.now (closed_in fingers.now fill.now order.now) ≡ None) }
     ensures stops { IfErr result (StopsAt MOST_CHOICES fingers.now (closed_in fingers.now fill.now order.now)) }
 {
     let opened = OpenGates::unfilled(alloc, fingers, fill.as_slice(), order.as_slice())?;
