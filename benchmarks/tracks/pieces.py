@@ -42,14 +42,18 @@ def is_wired(one):
     return not has_cycle(range(len(one.pieces)), one.above)
 
 
+def meets(one, other):
+    """Whether two pieces need different tracks: they are of different nets and share a line."""
+    return one.net != other.net and one.left <= other.right and other.left <= one.right
+
+
 def first_routing(one, tracks):
     """The first legal routing by pieces on exactly that many tracks, as tracks in order, or None."""
     pieces, above, failed = one.pieces, one.above, set()
 
     def fits(given, at, track):
         for other, taken in enumerate(given):
-            meets = pieces[other].net != pieces[at].net and pieces[other].left <= pieces[at].right and pieces[at].left <= pieces[other].right
-            if meets and taken == track or (at, other) in above and track <= taken or (other, at) in above and taken <= track:
+            if meets(pieces[other], pieces[at]) and taken == track or (at, other) in above and track <= taken or (other, at) in above and taken <= track:
                 return False
         return True
 
