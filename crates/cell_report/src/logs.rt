@@ -1,9 +1,10 @@
 ghost use Rattle.std.specs.Prelude.{◌≡◌, ◌≤◌, ◌++◌, OnOk};
 ghost use Rattle.cell_report.specs.Logs.{unfinished_text, checked_text, low_checked_text};
 
-use crate::cells::put_fewest;
+use crate::cells::put_fewest_by;
 use crate::row::put_row;
 use cell_num::{Bytes, Name, NoMemory, put_count, put_text};
+use track_log::Course;
 
 /// Adds the lines of an unfinished search.
 pub fn put_unfinished(out: &mut Bytes, proved: u32, lemmas: u64) -> Result<(), NoMemory>
@@ -29,11 +30,17 @@ pub fn put_checked(
 }
 
 /// Adds the lines of a checked certificate of tracks: the cell, the gaps, and the fewest tracks of a row with at most
-/// these gaps.
-pub fn put_low_checked(out: &mut Bytes, name: &Name, gaps: u32, tracks: u32) -> Result<(), NoMemory>
-    ensures { OnOk result (out.new ≡ out.old ++ low_checked_text name.now gaps tracks) }
+/// these gaps, where nets have this course.
+pub fn put_low_checked(
+    out: &mut Bytes,
+    course: Course,
+    name: &Name,
+    gaps: u32,
+    tracks: u32,
+) -> Result<(), NoMemory>
+    ensures { OnOk result (out.new ≡ out.old ++ low_checked_text course name.now gaps tracks) }
 {
     put_text(out, b"cell ", name.as_slice())?;
     put_count(out, b"gaps ", u64::from(gaps))?;
-    put_fewest(out, tracks)
+    put_fewest_by(out, course, tracks)
 }

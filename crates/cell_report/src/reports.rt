@@ -37,14 +37,19 @@ pub fn tall_report(alloc: Global, fewest: &[u8], needed: u32, given: u32) -> Res
     Ok(report)
 }
 
-/// The report of an open search for a row that can be wired: no track is known to be needed, and the first least row
-/// has the cycle of nets.
-pub fn open_ring_report(alloc: Global, nets: &Names, ring: &Ring) -> Result<Bytes, NoMemory>
-    ensures { IfOk result (λ report. report ≡ first_line status.Unfinished ++ fewest_text 0
+/// The report of an open search for a row that can be wired: the tracks that are known to be needed, and the cycle of
+/// nets, or of pieces of nets, that the first least row has.
+pub fn open_ring_report(
+    alloc: Global,
+    nets: &Names,
+    ring: &Ring,
+    fewest: u32,
+) -> Result<Bytes, NoMemory>
+    ensures { IfOk result (λ report. report ≡ first_line status.Unfinished ++ fewest_text fewest
         ++ ring_text nets.now ring.now) }
 {
     let mut report = Status::Unfinished.report(alloc)?;
-    put_fewest(&mut report, 0)?;
+    put_fewest(&mut report, fewest)?;
     put_ring(&mut report, nets, ring)?;
     Ok(report)
 }

@@ -98,7 +98,7 @@ fn unwired(alloc: Global, cell: &Subckt, ring: &Ring) -> Result<End, NoMemory>
     ensures { IfOk result (λ end. end
         ≡ reports status.Unfinished (fewest_text 0 ++ ring_text cell.now.nets ring.now)) }
 {
-    let report = open_ring_report(alloc, &cell.nets, ring)?;
+    let report = open_ring_report(alloc, &cell.nets, ring, 0)?;
     Ok(End::says(alloc, Status::Unfinished, report))
 }
 
