@@ -29,7 +29,6 @@ use Rattle.call_work.specs.declared.commands.Material.TheVariants.{Bench as OfNu
 use Rattle.call_work.specs.declared.commands.ReadMaterial.{ReadMaterial as Own}
 use Rattle.call_work.specs.declared.commands.ReadMaterial.TheVariants as held
 use Rattle.cell_inputs.specs.declared.style.Style.{Style}
-use Rattle.cell_inputs.specs.declared.style.Taps.{Taps}
 use Rattle.cell_inputs.specs.Inputs.{Inputs}
 use Rattle.cell_make.specs.Rows.{RowDrawn, RowCyclic, RowTall}
 use Rattle.cell_commands.specs.declared.verdict.CheckAnswer.TheVariants.{Accepted, Misread, Rejected}
@@ -74,7 +73,7 @@ gathered_keeps (Some (Plan asked evidence)) = inputs_gathered asked (Plan asked 
 gathered_keeps (Some (Make asked out style evidence)) = inputs_gathered asked (Make asked out style evidence) (making evidence out style) refl (λ inputs. refl) refl
 gathered_keeps (Some (MakeFrom asked out style file evidence)) =
     file_gathered asked (evidence_file evidence file) (MakeFrom asked out style file evidence) (making_from evidence out style) refl (λ inputs bytes. refl) refl
-gathered_keeps (Some (MakeLow asked out taps evidence)) = inputs_gathered asked (MakeLow asked out taps evidence) (making_low evidence out taps) refl (λ inputs. refl) refl
+gathered_keeps (Some (MakeLow asked out style evidence)) = inputs_gathered asked (MakeLow asked out style evidence) (making_low evidence out style) refl (λ inputs. refl) refl
 gathered_keeps (Some (Check asked file evidence)) =
     file_gathered asked (evidence_file evidence file) (Check asked file evidence) (checking evidence) refl (λ inputs bytes. refl) refl
 gathered_keeps (Some (CheckLow asked file)) = file_gathered asked (TrackFile file) (CheckLow asked file) checking_low refl (λ inputs bytes. refl) refl
@@ -99,7 +98,7 @@ gathered_keeps (Some (Agree tech gds lef name)) =
 abbrev pub HasWords : Kind → Form → Type 0
 HasWords Making form = (asked : CellAsked) × (out : List ℕ) × (style : Style) × (evidence : Evidence) × (form ≡ Make asked out style evidence)
 HasWords MakingFrom form = (asked : CellAsked) × (out : List ℕ) × (style : Style) × (file : List ℕ) × (evidence : Evidence) × (form ≡ MakeFrom asked out style file evidence)
-HasWords MakingLow form = (asked : CellAsked) × (out : List ℕ) × (taps : Taps) × (evidence : Evidence) × (form ≡ MakeLow asked out taps evidence)
+HasWords MakingLow form = (asked : CellAsked) × (out : List ℕ) × (style : Style) × (evidence : Evidence) × (form ≡ MakeLow asked out style evidence)
 HasWords Rowing form = (row : RowAsked) × (out : List ℕ) × (form ≡ Row row out)
 HasWords kind form = Unit {0}
 
@@ -107,7 +106,7 @@ has_words : (form : Form) → HasWords (kind_of form) form
 has_words (Plan asked evidence) = tt
 has_words (Make asked out style evidence) = (asked, out, style, evidence, refl)
 has_words (MakeFrom asked out style file evidence) = (asked, out, style, file, evidence, refl)
-has_words (MakeLow asked out taps evidence) = (asked, out, taps, evidence, refl)
+has_words (MakeLow asked out style evidence) = (asked, out, style, evidence, refl)
 has_words (Check asked file evidence) = tt
 has_words (CheckLow asked file) = tt
 has_words (Extract tech gds name rules) = tt
@@ -121,7 +120,7 @@ is_make form is = subst (λ (kind : Kind). HasWords kind form) is (has_words for
 pub is_make_from : (form : Form) → kind_of form ≡ MakingFrom → (asked : CellAsked) × (out : List ℕ) × (style : Style) × (file : List ℕ) × (evidence : Evidence) × (form ≡ MakeFrom asked out style file evidence)
 is_make_from form is = subst (λ (kind : Kind). HasWords kind form) is (has_words form)
 
-pub is_make_low : (form : Form) → kind_of form ≡ MakingLow → (asked : CellAsked) × (out : List ℕ) × (taps : Taps) × (evidence : Evidence) × (form ≡ MakeLow asked out taps evidence)
+pub is_make_low : (form : Form) → kind_of form ≡ MakingLow → (asked : CellAsked) × (out : List ℕ) × (style : Style) × (evidence : Evidence) × (form ≡ MakeLow asked out style evidence)
 is_make_low form is = subst (λ (kind : Kind). HasWords kind form) is (has_words form)
 
 pub is_row : (form : Form) → kind_of form ≡ Rowing → (row : RowAsked) × (out : List ℕ) × (form ≡ Row row out)

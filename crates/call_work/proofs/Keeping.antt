@@ -13,7 +13,6 @@ use Rattle.call_work.specs.Commands.{IsKept, checking, gathered, making, making_
 use Rattle.call_work.specs.Evidence.{IsReadAs, evidence_file}
 use Rattle.cell_make.specs.RowInputs.{RowInputs}
 use Rattle.cell_inputs.specs.declared.style.Style.{Style}
-use Rattle.cell_inputs.specs.declared.style.Taps.{Taps}
 use Rattle.cell_inputs.specs.Inputs.{Inputs}
 use Rattle.call_work.specs.Kept.{AreKept, HoldsFile, HoldsLog, MayKeep, ReadsBoth, both_from}
 use Rattle.cell_commands.specs.LogRead.{AreBegun, AreBehind}
@@ -112,8 +111,8 @@ keeps_short old new reading own told = (Err NoMemory, inr refl, handed_on NoMemo
 pub kept_cell : (evidence : Evidence) (inputs : Inputs) (out stem : List ℕ) (style : Style) → stem ≡ out → IsKept (making evidence out style inputs) (Read (held.Making (record { inputs = inputs; stem = stem; style = style; evidence = evidence })))
 kept_cell evidence inputs out stem style is = rw is refl
 
-pub kept_low : (evidence : Evidence) (inputs : Inputs) (out stem : List ℕ) (taps : Taps) → stem ≡ out → IsKept (making_low evidence out taps inputs) (Read (held.MakingLow (record { inputs = inputs; stem = stem; taps = taps; evidence = evidence })))
-kept_low evidence inputs out stem taps is = rw is refl
+pub kept_low : (evidence : Evidence) (inputs : Inputs) (out stem : List ℕ) (style : Style) → stem ≡ out → IsKept (making_low evidence out style inputs) (Read (held.MakingLow (record { inputs = inputs; stem = stem; style = style; evidence = evidence })))
+kept_low evidence inputs out stem style is = rw is refl
 
 pub kept_row : (inputs : RowInputs) (out stem : List ℕ) → stem ≡ out → IsKept (rowing_of out inputs) (Read (held.Rowing (record { inputs = inputs; stem = stem })))
 kept_row inputs out stem is = rw is refl

@@ -25,7 +25,6 @@ use Rattle.call_work.specs.declared.material.MakeMaterial.{MakeMaterial}
 use Rattle.call_work.specs.declared.material.PlanMaterial.{PlanMaterial}
 use Rattle.call_work.specs.declared.material.RowMaterial.{RowMaterial}
 use Rattle.cell_inputs.specs.declared.style.Style.{Style}
-use Rattle.cell_inputs.specs.declared.style.Taps.{Taps}
 use Rattle.cell_inputs.specs.Inputs.{Inputs}
 use Rattle.cell_commands.specs.Given.{ChecksBy, MakesFromTo}
 use Rattle.cell_commands.specs.Low.{MakesLowTo}
@@ -55,7 +54,7 @@ abbrev pub kind_of : Form → Kind
 kind_of (Plan cell evidence) = Planning
 kind_of (Make cell out style evidence) = Making
 kind_of (MakeFrom cell out style file evidence) = MakingFrom
-kind_of (MakeLow cell out taps evidence) = MakingLow
+kind_of (MakeLow cell out style evidence) = MakingLow
 kind_of (Check cell file evidence) = Checking
 kind_of (CheckLow cell file) = CheckingLow
 kind_of (Extract tech gds cell rules) = Extracting
@@ -108,9 +107,9 @@ abbrev pub making_from : Evidence → List ℕ → Style → Inputs → List ℕ
 making_from evidence out style inputs bytes =
     (MakingFrom, record { inputs = inputs; evidence = evidence; bytes = bytes; stem = out; style = style })
 
-abbrev pub making_low : Evidence → List ℕ → Taps → Inputs → Material
-making_low evidence out taps inputs =
-    (MakingLow, record { inputs = inputs; stem = out; taps = taps; evidence = evidence })
+abbrev pub making_low : Evidence → List ℕ → Style → Inputs → Material
+making_low evidence out style inputs =
+    (MakingLow, record { inputs = inputs; stem = out; style = style; evidence = evidence })
 
 abbrev pub checking : Evidence → Inputs → List ℕ → Material
 checking evidence inputs bytes = (Checking, record { inputs = inputs; evidence = evidence; bytes = bytes })
@@ -140,8 +139,8 @@ gathered (Some (Make asked out style evidence)) =
     inputs_from asked >>= λ inputs. Ends (Ok (making evidence out style inputs))
 gathered (Some (MakeFrom asked out style file evidence)) =
     inputs_from asked >>= making_over evidence out style file
-gathered (Some (MakeLow asked out taps evidence)) =
-    inputs_from asked >>= λ inputs. Ends (Ok (making_low evidence out taps inputs))
+gathered (Some (MakeLow asked out style evidence)) =
+    inputs_from asked >>= λ inputs. Ends (Ok (making_low evidence out style inputs))
 gathered (Some (Check asked file evidence)) = inputs_from asked >>= checking_over evidence file
 gathered (Some (CheckLow asked file)) = inputs_from asked >>= checking_low_over file
 gathered (Some (Extract tech gds cell rules)) =
@@ -157,7 +156,7 @@ read_by (Some (Plan asked evidence)) = input_files asked.tech asked.spice
 read_by (Some (Make asked out style evidence)) = input_files asked.tech asked.spice
 read_by (Some (MakeFrom asked out style file evidence)) =
     input_files asked.tech asked.spice ++ evidence_file evidence file ∷ []
-read_by (Some (MakeLow asked out taps evidence)) = input_files asked.tech asked.spice
+read_by (Some (MakeLow asked out style evidence)) = input_files asked.tech asked.spice
 read_by (Some (Check asked file evidence)) =
     input_files asked.tech asked.spice ++ evidence_file evidence file ∷ []
 read_by (Some (CheckLow asked file)) = input_files asked.tech asked.spice ++ TrackFile file ∷ []
@@ -193,7 +192,7 @@ abbrev pub WorksTo : (kind : Kind) → MaterialOf kind → End → Type 0
 WorksTo Planning m end = PlansTo m.evidence m.inputs end
 WorksTo Making m end = MakesTo m.evidence m.style m.inputs m.stem end
 WorksTo MakingFrom m end = MakesFromTo m.evidence m.style m.inputs m.bytes m.stem end
-WorksTo MakingLow m end = MakesLowTo m.evidence m.taps m.inputs m.stem end
+WorksTo MakingLow m end = MakesLowTo m.evidence m.style m.inputs m.stem end
 WorksTo Checking m end = ChecksBy m.evidence m.inputs m.bytes end
 WorksTo CheckingLow m end = LowChecksTo m.inputs m.bytes end
 WorksTo Extracting cell end = ExtractsTo cell end
@@ -218,7 +217,7 @@ abbrev pub WorksOn : Own → End → Type 0
 WorksOn (read.Planning m) end = PlansTo m.evidence m.inputs end
 WorksOn (read.Making m) end = MakesTo m.evidence m.style m.inputs m.stem end
 WorksOn (read.MakingFrom m) end = MakesFromOn m.style m.inputs m.file m.stem end
-WorksOn (read.MakingLow m) end = MakesLowTo m.evidence m.taps m.inputs m.stem end
+WorksOn (read.MakingLow m) end = MakesLowTo m.evidence m.style m.inputs m.stem end
 WorksOn (read.Checking m) end = ChecksOn m.inputs m.file end
 WorksOn (read.CheckingLow m) end = LowChecksTo m.inputs m.bytes end
 WorksOn (read.Extracting cell) end = ExtractsTo cell end

@@ -74,9 +74,9 @@ fn gather_form<D: Desk>(alloc: Global, desk: &mut D, form: Form<'_>) -> Result<M
         Form::MakeLow {
             cell,
             out,
-            taps,
+            style,
             evidence,
-        } => for_make_low(alloc, desk, &cell, out, taps, evidence),
+        } => for_make_low(alloc, desk, &cell, out, style, evidence),
         Form::Check { cell, file, by } => for_check(alloc, desk, &cell, file, by),
         Form::CheckLow { cell, file } => for_check_low(alloc, desk, &cell, file),
         Form::Extract {
@@ -119,7 +119,7 @@ fn work_on(alloc: Global, material: &ReadMaterial) -> Result<End, NoMemory>
         ReadMaterial::Planning(of) => plan(alloc, &of.inputs, of.evidence),
         ReadMaterial::Making(of) => make(alloc, &of.inputs, &of.stem, of.style, of.evidence),
         ReadMaterial::MakingFrom(of) => make_from(alloc, of),
-        ReadMaterial::MakingLow(of) => make_low(alloc, &of.inputs, &of.stem, of.taps, of.evidence),
+        ReadMaterial::MakingLow(of) => make_low(alloc, &of.inputs, &of.stem, of.style, of.evidence),
         ReadMaterial::Checking(of) => check_by(alloc, &of.inputs, &of.file),
         ReadMaterial::CheckingLow(of) => check_low(alloc, &of.inputs, of.bytes.as_slice()),
         ReadMaterial::Extracting(cell) => extract(alloc, cell),

@@ -3,7 +3,7 @@ use call_end::Stem;
 use call_read::FileBytes;
 use call_words::Evidence;
 use cell_commands::CheckedLog;
-use cell_inputs::{Inputs, Style, Taps};
+use cell_inputs::{Inputs, Style};
 use cell_make::RowInputs;
 
 /// What a plan works on: the inputs of a cell, and the evidence that its row is found with.
@@ -47,13 +47,13 @@ pub struct FromMaterial {
     pub style: Style,
 }
 
-/// What the drawing of the lowest row works on: the inputs of a cell, what the names of its files begin with, whether
-/// it has taps, and the evidence that its gaps are found with.
+/// What the drawing of the lowest row works on: the inputs of a cell, what the names of its files begin with, the
+/// style, and the evidence that its gaps are found with.
 #[derive(Drop)]
 pub struct LowMaterial {
     pub inputs: Inputs,
     pub stem: Stem,
-    pub taps: Taps,
+    pub style: Style,
     pub evidence: Evidence,
 }
 

@@ -26,11 +26,14 @@ use Rattle.channel_route.specs.declared.ring.Ring.{Ring}
 use Rattle.channel_route.specs.declared.routing.Routing.{Routing}
 use Rattle.spice_net.specs.declared.subckt.Subckt.{Subckt}
 use Rattle.track_log.specs.declared.certificate.TrackCertificate.{TrackCertificate}
-use Rattle.cell_inputs.specs.declared.style.Taps.{Taps}
+use Rattle.cell_inputs.specs.declared.style.Style.{Style}
+use Rattle.cell_inputs.specs.declared.style.Wiring.{Wiring}
 use Rattle.cell_inputs.specs.Inputs.{AreInputs, Inputs}
 use Rattle.cell_make.specs.declared.draw_outcome.DrawOutcome.{DrawOutcome}
-use Rattle.cell_make.specs.Low.{DrawsLow, HasFirstLeast, IsLeast, IsLowest, IsOpenRow, IsRinged, ProvesTracks, low_style}
-use Rattle.cell_make.specs.Low.{IsUnwiredEnd as IsUnwired}
+use Rattle.cell_make.specs.Low.{DrawsLow, IsLowest, IsOpenRow}
+use Rattle.cell_make.specs.LowRows.{CanBeRouted, HasFirstLeast, IsLeast, IsRinged}
+use Rattle.cell_make.specs.LowTracks.{ProvesTracks}
+use Rattle.cell_make.specs.LowUnwired.{IsUnwiredEnd as IsUnwired}
 use Rattle.cell_make.specs.Rows.{ComesAs, DrawAnswer, IsThat, IsWired, RowCyclic, row_answer}
 use Rattle.cell_make.proofs.LogFits as log
 use Rattle.cell_make.proofs.LowCell.{first_there}
@@ -42,7 +45,7 @@ use Rattle.cell_commands.specs.declared.certificate.Certificate.TheVariants as h
 use Rattle.cell_commands.specs.declared.evidence.RowEvidence.{RowEvidence as EvidenceOf}
 use Rattle.cell_commands.specs.Certificate.{CanBeWritten, row_evidence}
 use Rattle.cell_commands.specs.Evidence.{evidence_files, gate_text, shown}
-use Rattle.cell_commands.specs.Low.{Crowded, IsLowCertifiedBy, Made, MakesLowTo, Open, Unwired, low_evidence, track_files}
+use Rattle.cell_commands.specs.Low.{Crowded, IsLowCertifiedBy, Made, MakesLowTo, Open, Unwired, low_evidence, open_fewest, track_files}
 use Rattle.cell_commands.specs.LowEnds.{IsRingEnd}
 use Rattle.cell_commands.specs.Make.{IsDrawnTo, IsOpenEnd}
 use Rattle.cell_commands.specs.RowEnd.{IsRowEnd, RowEvidence}
@@ -68,8 +71,8 @@ found_first Trails inputs row (held.Trails found) is = is.first
 found_first Log inputs row (held.Trails found) is = absurd is
 found_first Trails inputs row (held.Log found) is = absurd is
 
-pub found_there : (inputs : Inputs) (row : List Column) (certificate : Certificate) → AreInputs inputs → IsFoundFor inputs row certificate → HasFirstLeast inputs
-found_there inputs row certificate are is = first_there inputs row are (found_first (kind_of certificate) inputs row certificate is)
+pub found_there : (wiring : Wiring) (inputs : Inputs) (row : List Column) (certificate : Certificate) → AreInputs inputs → IsFoundFor inputs row certificate → CanBeRouted wiring inputs row → HasFirstLeast wiring inputs
+found_there wiring inputs row certificate are is routed = first_there wiring inputs row are (found_first (kind_of certificate) inputs row certificate is) routed
 
 pub found_certified : (evidence : Evidence) (inputs : Inputs) (row : List Column) (certificate : Certificate) → IsFoundBy evidence inputs row certificate → IsCertifiedBy evidence inputs row certificate
 found_certified Log inputs row (held.Log found) is = is.certified
@@ -131,58 +134,58 @@ evidence_is : (files files' : List (List ℕ × List ℕ)) (fewest fewest' count
 evidence_is files files' fewest fewest' counts counts' f w c = cc
 
 -- that of a row, with the file of its tracks after its files
-pub evidence_shown : (cell : Subckt) (out : List ℕ) (certificate : Certificate) (tracks : TrackCertificate) (of_row : EvidenceOf) (files : List Output) (fewest : List ℕ) → shown of_row ≡ row_evidence cell out certificate → evidence_files files ≡ evidence_files of_row.files ++ track_files cell out tracks → fewest ≡ fewest_text tracks.tracks → shown (record { files = files; fewest = fewest; counts = of_row.counts }) ≡ low_evidence cell out certificate tracks
-evidence_shown cell out certificate tracks of_row files fewest is more counted =
-    evidence_is (evidence_files files) ((row_evidence cell out certificate).files ++ track_files cell out tracks) fewest (fewest_text tracks.tracks) of_row.counts (row_evidence cell out certificate).counts
-    (more ∙ ap (λ (e : RowEvidence). e.files ++ track_files cell out tracks) is) counted (ap (λ (e : RowEvidence). e.counts) is)
+pub evidence_shown : (wiring : Wiring) (cell : Subckt) (out : List ℕ) (certificate : Certificate) (tracks : TrackCertificate) (of_row : EvidenceOf) (files : List Output) (fewest : List ℕ) → shown of_row ≡ row_evidence cell out certificate → evidence_files files ≡ evidence_files of_row.files ++ track_files wiring cell out tracks → fewest ≡ fewest_text tracks.tracks → shown (record { files = files; fewest = fewest; counts = of_row.counts }) ≡ low_evidence wiring cell out certificate tracks
+evidence_shown wiring cell out certificate tracks of_row files fewest is more counted =
+    evidence_is (evidence_files files) ((row_evidence cell out certificate).files ++ track_files wiring cell out tracks) fewest (fewest_text tracks.tracks) of_row.counts (row_evidence cell out certificate).counts
+    (more ∙ ap (λ (e : RowEvidence). e.files ++ track_files wiring cell out tracks) is) counted (ap (λ (e : RowEvidence). e.counts) is)
 
 -- ---- the end
 
 -- the evidence as the code has it, of the inputs as they are seen
-pub evidence_of : (inside inputs : Inputs) (out : List ℕ) (certificate : Certificate) (tracks : TrackCertificate) (told : RowEvidence) → inside ≡ inputs → told ≡ low_evidence inside.cell out certificate tracks → told ≡ low_evidence inputs.cell out certificate tracks
-evidence_of inside inputs out certificate tracks told same is = subst (λ (i : Inputs). told ≡ low_evidence i.cell out certificate tracks) same is
+pub evidence_of : (wiring : Wiring) (inside inputs : Inputs) (out : List ℕ) (certificate : Certificate) (tracks : TrackCertificate) (told : RowEvidence) → inside ≡ inputs → told ≡ low_evidence wiring inside.cell out certificate tracks → told ≡ low_evidence wiring inputs.cell out certificate tracks
+evidence_of wiring inside inputs out certificate tracks told same is = subst (λ (i : Inputs). told ≡ low_evidence wiring i.cell out certificate tracks) same is
 
-row_made : (evidence : Evidence) (taps : Taps) (inputs : Inputs) (out : List ℕ) (row : List Column) (certificate : Certificate) (tracks : TrackCertificate) (answer : DrawAnswer) (told : RowEvidence) (end : End) → told ≡ low_evidence inputs.cell out certificate tracks → ProvesTracks inputs tracks → IsLowCertifiedBy evidence inputs row certificate → HasFirstLeast inputs → DrawsLow (low_style taps) inputs row tracks answer → IsRowEnd (low_style taps) inputs out row told answer end → MakesLowTo evidence taps inputs out end
-row_made evidence taps inputs out row certificate tracks answer told end is proves certified there draws ends =
-    (Made row certificate tracks answer, (proves, certified, there, draws), subst (λ (t : RowEvidence). IsRowEnd (low_style taps) inputs out row t answer end) is ends)
+row_made : (evidence : Evidence) (style : Style) (inputs : Inputs) (out : List ℕ) (row : List Column) (certificate : Certificate) (tracks : TrackCertificate) (answer : DrawAnswer) (told : RowEvidence) (end : End) → told ≡ low_evidence style.wiring inputs.cell out certificate tracks → ProvesTracks style.wiring inputs tracks → IsLowCertifiedBy evidence inputs row certificate → HasFirstLeast style.wiring inputs → DrawsLow style inputs row tracks answer → IsRowEnd style inputs out row told answer end → MakesLowTo evidence style inputs out end
+row_made evidence style inputs out row certificate tracks answer told end is proves certified there draws ends =
+    (Made row certificate tracks answer, (proves, certified, there, draws), subst (λ (t : RowEvidence). IsRowEnd style inputs out row t answer end) is ends)
 
-pub lowest_made : (evidence : Evidence) (taps : Taps) (inputs : Inputs) (out : List ℕ) (row drawn : List Column) (certificate : Certificate) (tracks : TrackCertificate) (routing : Routing) (came : DrawOutcome) (told : RowEvidence) (r : Result End NoMemory) → drawn ≡ row → told ≡ low_evidence inputs.cell out certificate tracks → ProvesTracks inputs tracks → IsLowCertifiedBy evidence inputs row certificate → HasFirstLeast inputs → IsLowest inputs row routing tracks → IsWired came → ComesAs (IsThat routing) (low_style taps) inputs row came → IfOk r (IsRowEnd (low_style taps) inputs out drawn told (row_answer came)) → IfOk r (MakesLowTo evidence taps inputs out)
-lowest_made evidence taps inputs out row drawn certificate tracks routing came told r same is proves certified there lowest wired comes ends =
-    IfOk-weaker r (IsRowEnd (low_style taps) inputs out row told (row_answer came)) (MakesLowTo evidence taps inputs out)
-    (λ end e. row_made evidence taps inputs out row certificate tracks (row_answer came) told end is proves certified there (lowest_draws (low_style taps) inputs row tracks routing came lowest wired comes) e)
-    (subst (λ (columns : List Column). IfOk r (IsRowEnd (low_style taps) inputs out columns told (row_answer came))) same ends)
+pub lowest_made : (evidence : Evidence) (style : Style) (inputs : Inputs) (out : List ℕ) (row drawn : List Column) (certificate : Certificate) (tracks : TrackCertificate) (routing : Routing) (came : DrawOutcome) (told : RowEvidence) (r : Result End NoMemory) → drawn ≡ row → told ≡ low_evidence style.wiring inputs.cell out certificate tracks → ProvesTracks style.wiring inputs tracks → IsLowCertifiedBy evidence inputs row certificate → HasFirstLeast style.wiring inputs → IsLowest style.wiring inputs row routing tracks → IsWired came → ComesAs (IsThat routing) style inputs row came → IfOk r (IsRowEnd style inputs out drawn told (row_answer came)) → IfOk r (MakesLowTo evidence style inputs out)
+lowest_made evidence style inputs out row drawn certificate tracks routing came told r same is proves certified there lowest wired comes ends =
+    IfOk-weaker r (IsRowEnd style inputs out row told (row_answer came)) (MakesLowTo evidence style inputs out)
+    (λ end e. row_made evidence style inputs out row certificate tracks (row_answer came) told end is proves certified there (lowest_draws style inputs row tracks routing came lowest wired comes) e)
+    (subst (λ (columns : List Column). IfOk r (IsRowEnd style inputs out columns told (row_answer came))) same ends)
 
 -- the first row that can be wired with the fewest gaps
-pub wired_made : (evidence : Evidence) (taps : Taps) (inputs : Inputs) (out : List ℕ) (least row : List Column) (certificate : Certificate) (tracks : TrackCertificate) (told : RowEvidence) (r : Result End NoMemory) → told ≡ low_evidence inputs.cell out certificate tracks → ProvesTracks inputs tracks → IsLowCertifiedBy evidence inputs row certificate → HasFirstLeast inputs → IsFirstLeast inputs.fingers least → IsOpenRow inputs least row tracks → IfOk r (IsDrawnTo (low_style taps) inputs out row told) → IfOk r (MakesLowTo evidence taps inputs out)
-wired_made evidence taps inputs out least row certificate tracks told r is proves certified there first open' ends =
-    IfOk-weaker r (IsDrawnTo (low_style taps) inputs out row told) (MakesLowTo evidence taps inputs out)
-    (λ end (answer, draws, e). row_made evidence taps inputs out row certificate tracks answer told end is proves certified there (open_draws taps inputs least row tracks answer first open' draws) e) ends
+pub wired_made : (evidence : Evidence) (style : Style) (inputs : Inputs) (out : List ℕ) (least row : List Column) (certificate : Certificate) (tracks : TrackCertificate) (told : RowEvidence) (r : Result End NoMemory) → told ≡ low_evidence style.wiring inputs.cell out certificate tracks → ProvesTracks style.wiring inputs tracks → IsLowCertifiedBy evidence inputs row certificate → HasFirstLeast style.wiring inputs → IsFirstLeast inputs.fingers least → IsOpenRow style.wiring inputs least row tracks → IfOk r (IsDrawnTo style inputs out row told) → IfOk r (MakesLowTo evidence style inputs out)
+wired_made evidence style inputs out least row certificate tracks told r is proves certified there first open' ends =
+    IfOk-weaker r (IsDrawnTo style inputs out row told) (MakesLowTo evidence style inputs out)
+    (λ end (answer, draws, e). row_made evidence style inputs out row certificate tracks answer told end is proves certified there (open_draws style inputs least row tracks answer first open' draws) e) ends
 
 -- the cycle of the first least row, by why no row that can be wired is known
-ring_made : (evidence : Evidence) (taps : Taps) (inputs : Inputs) (out : List ℕ) (row : List Column) (certificate : Certificate) (tracks : TrackCertificate) (none_wired : Bool) (ring : Ring) (told : RowEvidence) (end : End) → told ≡ low_evidence inputs.cell out certificate tracks → ProvesTracks inputs tracks → HasFirstLeast inputs → IsFoundBy evidence inputs row certificate → IsUnwired inputs tracks none_wired → IsRinged inputs row ring → IsRingEnd inputs told none_wired ring end → MakesLowTo evidence taps inputs out end
-ring_made evidence taps inputs out row certificate tracks true ring told end is proves there found none ringed ends =
-    row_made evidence taps inputs out row certificate tracks (RowCyclic ring) told end is proves (inl (found_certified evidence inputs row certificate found)) there
+ring_made : (evidence : Evidence) (style : Style) (inputs : Inputs) (out : List ℕ) (row : List Column) (certificate : Certificate) (tracks : TrackCertificate) (none_wired : Bool) (ring : Ring) (told : RowEvidence) (end : End) → told ≡ low_evidence style.wiring inputs.cell out certificate tracks → ProvesTracks style.wiring inputs tracks → HasFirstLeast style.wiring inputs → IsFoundBy evidence inputs row certificate → IsUnwired style.wiring inputs tracks none_wired → IsRinged style.wiring inputs row ring → IsRingEnd inputs told none_wired (open_fewest style.wiring tracks) ring end → MakesLowTo evidence style inputs out end
+ring_made evidence style inputs out row certificate tracks true ring told end is proves there found none ringed ends =
+    row_made evidence style inputs out row certificate tracks (RowCyclic ring) told end is proves (inl (found_certified evidence inputs row certificate found)) there
     (ringed.told, (found_first evidence inputs row certificate found, none)) ends
-ring_made evidence taps inputs out row certificate tracks false ring told end is proves there found spent ringed ends = (
+ring_made evidence style inputs out row certificate tracks false ring told end is proves there found spent ringed ends = (
   Unwired row certificate tracks ring,
   (proves, spent, found, ringed),
-  subst (λ (t : RowEvidence). IsEnd status.Unfinished t.files (first_line status.Unfinished ++ fewest_text 0 ++ ring_text inputs.cell.nets ring) end) is ends,
+  subst (λ (t : RowEvidence). IsEnd status.Unfinished t.files (first_line status.Unfinished ++ fewest_text (open_fewest style.wiring tracks) ++ ring_text inputs.cell.nets ring) end) is ends,
 )
 
-pub ring_ends : (evidence : Evidence) (taps : Taps) (inputs : Inputs) (out : List ℕ) (row : List Column) (certificate : Certificate) (tracks : TrackCertificate) (none_wired : Bool) (ring : Ring) (told : RowEvidence) (r : Result End NoMemory) → told ≡ low_evidence inputs.cell out certificate tracks → ProvesTracks inputs tracks → HasFirstLeast inputs → IsFoundBy evidence inputs row certificate → IsUnwired inputs tracks none_wired → IsRinged inputs row ring → IfOk r (IsRingEnd inputs told none_wired ring) → IfOk r (MakesLowTo evidence taps inputs out)
-ring_ends evidence taps inputs out row certificate tracks none_wired ring told r is proves there found unwired ringed ends =
-    IfOk-weaker r (IsRingEnd inputs told none_wired ring) (MakesLowTo evidence taps inputs out)
-    (λ end e. ring_made evidence taps inputs out row certificate tracks none_wired ring told end is proves there found unwired ringed e) ends
+pub ring_ends : (evidence : Evidence) (style : Style) (inputs : Inputs) (out : List ℕ) (row : List Column) (certificate : Certificate) (tracks : TrackCertificate) (none_wired : Bool) (ring : Ring) (told : RowEvidence) (r : Result End NoMemory) → told ≡ low_evidence style.wiring inputs.cell out certificate tracks → ProvesTracks style.wiring inputs tracks → HasFirstLeast style.wiring inputs → IsFoundBy evidence inputs row certificate → IsUnwired style.wiring inputs tracks none_wired → IsRinged style.wiring inputs row ring → IfOk r (IsRingEnd inputs told none_wired (open_fewest style.wiring tracks) ring) → IfOk r (MakesLowTo evidence style inputs out)
+ring_ends evidence style inputs out row certificate tracks none_wired ring told r is proves there found unwired ringed ends =
+    IfOk-weaker r (IsRingEnd inputs told none_wired (open_fewest style.wiring tracks) ring) (MakesLowTo evidence style inputs out)
+    (λ end e. ring_made evidence style inputs out row certificate tracks none_wired ring told end is proves there found unwired ringed e) ends
 
 -- ---- without a row
 
-pub open_low : (evidence : Evidence) (taps : Taps) (inputs inside : Inputs) (out : List ℕ) (proved : ℕ) (certificate : Certificate) (r : Result End NoMemory) → inside ≡ inputs → IsOpenBy evidence inputs proved certificate → IfOk r (IsOpenEnd inside.cell out proved certificate) → IfOk r (MakesLowTo evidence taps inputs out)
-open_low evidence taps inputs inside out proved certificate r same spent ends =
-    IfOk-weaker r (IsOpenEnd inputs.cell out proved certificate) (MakesLowTo evidence taps inputs out) (λ end e. (Open proved certificate, spent, e))
+pub open_low : (evidence : Evidence) (style : Style) (inputs inside : Inputs) (out : List ℕ) (proved : ℕ) (certificate : Certificate) (r : Result End NoMemory) → inside ≡ inputs → IsOpenBy evidence inputs proved certificate → IfOk r (IsOpenEnd inside.cell out proved certificate) → IfOk r (MakesLowTo evidence style inputs out)
+open_low evidence style inputs inside out proved certificate r same spent ends =
+    IfOk-weaker r (IsOpenEnd inputs.cell out proved certificate) (MakesLowTo evidence style inputs out) (λ end e. (Open proved certificate, spent, e))
     (subst (λ (i : Inputs). IfOk r (IsOpenEnd i.cell out proved certificate)) same ends)
 
-pub crowded_low : (evidence : Evidence) (taps : Taps) (inputs inside : Inputs) (out : List ℕ) (gate : NetNo) (r : Result End NoMemory) → inside ≡ inputs → Crowds evidence inputs gate → IfOk r (λ end. end ≡ reports status.Unfinished (gate_text inside.cell gate)) → IfOk r (MakesLowTo evidence taps inputs out)
-crowded_low evidence taps inputs inside out gate r same crowded is =
-    IfOk-weaker r (λ (end : End). end ≡ reports status.Unfinished (gate_text inputs.cell gate)) (MakesLowTo evidence taps inputs out)
+pub crowded_low : (evidence : Evidence) (style : Style) (inputs inside : Inputs) (out : List ℕ) (gate : NetNo) (r : Result End NoMemory) → inside ≡ inputs → Crowds evidence inputs gate → IfOk r (λ end. end ≡ reports status.Unfinished (gate_text inside.cell gate)) → IfOk r (MakesLowTo evidence style inputs out)
+crowded_low evidence style inputs inside out gate r same crowded is =
+    IfOk-weaker r (λ (end : End). end ≡ reports status.Unfinished (gate_text inputs.cell gate)) (MakesLowTo evidence style inputs out)
     (λ end said. (Crowded gate, crowded, crowded_end inputs.cell gate end said))
     (subst (λ (i : Inputs). IfOk r (λ end. end ≡ reports status.Unfinished (gate_text i.cell gate))) same is)

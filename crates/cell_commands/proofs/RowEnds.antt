@@ -84,14 +84,14 @@ tall_ends style inputs out row evidence outcome placement routing needed given r
     (subst (λ h. report ≡ first_line status.TooTall ++ evidence.fewest ++ tall_text needed h) has told)) ends)
 
 -- the cycle of the first least row where no row can be wired, and where the search for one is open
-pub none_ends : (inputs inside : Inputs) (evidence : RowEvidence) (none_wired : Bool) (ring : Ring) (report : List ℕ) (end : End) → inside ≡ inputs → none_wired ≡ true → report ≡ first_line status.Cycle ++ ring_text inside.cell.nets ring → IsEnd status.Cycle (evidence_files evidence.files) report end → IsRingEnd inputs (shown evidence) none_wired ring end
-none_ends inputs inside evidence none_wired ring report end same none told ends =
-    subst (λ (b : Bool). IsRingEnd inputs (shown evidence) b ring end) (sym none)
+pub none_ends : (inputs inside : Inputs) (evidence : RowEvidence) (none_wired : Bool) (fewest : ℕ) (ring : Ring) (report : List ℕ) (end : End) → inside ≡ inputs → none_wired ≡ true → report ≡ first_line status.Cycle ++ ring_text inside.cell.nets ring → IsEnd status.Cycle (evidence_files evidence.files) report end → IsRingEnd inputs (shown evidence) none_wired fewest ring end
+none_ends inputs inside evidence none_wired fewest ring report end same none told ends =
+    subst (λ (b : Bool). IsRingEnd inputs (shown evidence) b fewest ring end) (sym none)
     (subst (λ (text : List ℕ). IsEnd status.Cycle (evidence_files evidence.files) text end)
     (subst (λ (i : Inputs). report ≡ first_line status.Cycle ++ ring_text i.cell.nets ring) same told) ends)
 
-pub open_ends : (inputs inside : Inputs) (evidence : RowEvidence) (none_wired : Bool) (ring : Ring) (report : List ℕ) (end : End) → inside ≡ inputs → none_wired ≡ false → report ≡ first_line status.Unfinished ++ fewest_text 0 ++ ring_text inside.cell.nets ring → IsEnd status.Unfinished (evidence_files evidence.files) report end → IsRingEnd inputs (shown evidence) none_wired ring end
-open_ends inputs inside evidence none_wired ring report end same spent told ends =
-    subst (λ (b : Bool). IsRingEnd inputs (shown evidence) b ring end) (sym spent)
+pub open_ends : (inputs inside : Inputs) (evidence : RowEvidence) (none_wired : Bool) (fewest : ℕ) (ring : Ring) (report : List ℕ) (end : End) → inside ≡ inputs → none_wired ≡ false → report ≡ first_line status.Unfinished ++ fewest_text fewest ++ ring_text inside.cell.nets ring → IsEnd status.Unfinished (evidence_files evidence.files) report end → IsRingEnd inputs (shown evidence) none_wired fewest ring end
+open_ends inputs inside evidence none_wired fewest ring report end same spent told ends =
+    subst (λ (b : Bool). IsRingEnd inputs (shown evidence) b fewest ring end) (sym spent)
     (subst (λ (text : List ℕ). IsEnd status.Unfinished (evidence_files evidence.files) text end)
-    (subst (λ (i : Inputs). report ≡ first_line status.Unfinished ++ fewest_text 0 ++ ring_text i.cell.nets ring) same told) ends)
+    (subst (λ (i : Inputs). report ≡ first_line status.Unfinished ++ fewest_text fewest ++ ring_text i.cell.nets ring) same told) ends)

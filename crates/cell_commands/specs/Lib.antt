@@ -9,6 +9,7 @@ pub mod Given
 pub mod Make
 pub mod Plan
 pub mod Searched
+pub mod Course
 pub mod Low
 pub mod Listed
 pub mod Other

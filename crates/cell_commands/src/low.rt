@@ -1,15 +1,17 @@
 // `make` with `--low`: of all rows that can be wired with the fewest gaps the first on the fewest tracks, drawn.
 ghost use Rattle.std.specs.Prelude.{◌≡◌, IfOk};
 ghost use Rattle.row_place.specs.Places.{placement_of};
-ghost use Rattle.cell_inputs.specs.declared.style.Taps.{Taps as TapsOf};
-ghost use Rattle.cell_make.specs.Low.{IsLowest, IsOpenRow, IsRinged, IsUnwiredEnd, ProvesTracks};
+ghost use Rattle.cell_make.specs.Low.{IsLowest, IsOpenRow};
+ghost use Rattle.cell_make.specs.LowRows.{CanBeRouted, IsRinged};
+ghost use Rattle.cell_make.specs.LowTracks.{ProvesTracks};
+ghost use Rattle.cell_make.specs.LowUnwired.{IsUnwiredEnd};
 ghost use Rattle.cell_commands.specs.Low.{MakesLowTo};
 ghost use Rattle.cell_commands.specs.Relisted.{IsFoundFor, kind_of};
 
 use crate::certificate::Certificate;
 use crate::drawing::drawn;
 use crate::evidence::too_many_pairings;
-use crate::low_end::{ring_end, row_of};
+use crate::low_end::{open_fewest, ring_end, row_of};
 use crate::low_evidence::low_evidence;
 use crate::make_end::row_end;
 use crate::making::open_end;
@@ -17,7 +19,7 @@ use crate::relisted::beside;
 use crate::searched::Searched;
 use call_end::{End, Stem};
 use call_words::Evidence;
-use cell_inputs::{Inputs, Style, Taps, Wiring};
+use cell_inputs::{Inputs, Style};
 use cell_make::{DrawOutcome, LowPlanned};
 use cell_num::NoMemory;
 use channel_route::{Ring, Routing};
@@ -31,7 +33,7 @@ fn lowest(
     alloc: Global,
     inputs: &Inputs,
     stem: &Stem,
-    taps: Taps,
+    style: Style,
     least: &Arrangement,
     gaps: Certificate,
     placement: Placement,
@@ -39,19 +41,16 @@ fn lowest(
     tracks: &TrackCertificate,
 ) -> Result<End, NoMemory>
     requires found { IsFoundFor inputs.now least.now gaps }
+    requires routed { CanBeRouted style.wiring inputs.now least.now }
     requires placed { placement ≡ placement_of placement.row }
-    requires lowest { IsLowest inputs.now placement.row routing tracks.now }
-    requires proves { ProvesTracks inputs.now tracks.now }
-    ensures { IfOk result (MakesLowTo (kind_of gaps) taps inputs.now stem.now) }
+    requires lowest { IsLowest style.wiring inputs.now placement.row routing tracks.now }
+    requires proves { ProvesTracks style.wiring inputs.now tracks.now }
+    ensures { IfOk result (MakesLowTo (kind_of gaps) style inputs.now stem.now) }
 {
     inputs.show_limits();
     let listing = beside(alloc, inputs, least, &placement.row, gaps)?;
-    let evidence = low_evidence(alloc, &inputs.cell, stem, listing, tracks)?;
-    let style = Style {
-        wiring: Wiring::Straight,
-        taps,
-    };
-    let came = DrawOutcome::lowest(alloc, inputs, taps, placement, routing)?;
+    let evidence = low_evidence(alloc, style.wiring, &inputs.cell, stem, listing, tracks)?;
+    let came = DrawOutcome::lowest(alloc, inputs, style, placement, routing)?;
     let end = row_end(alloc, inputs, stem, style, row_of(&came), &came, evidence);
     drop(came);
     end
@@ -62,32 +61,30 @@ fn wired(
     alloc: Global,
     inputs: &Inputs,
     stem: &Stem,
-    taps: Taps,
+    style: Style,
     least: &Arrangement,
     gaps: Certificate,
     row: &Arrangement,
     tracks: &TrackCertificate,
 ) -> Result<End, NoMemory>
     requires found { IsFoundFor inputs.now least.now gaps }
-    requires open { IsOpenRow inputs.now least.now row.now tracks.now }
-    requires proves { ProvesTracks inputs.now tracks.now }
-    ensures { IfOk result (MakesLowTo (kind_of gaps) taps inputs.now stem.now) }
+    requires routed { CanBeRouted style.wiring inputs.now least.now }
+    requires open { IsOpenRow style.wiring inputs.now least.now row.now tracks.now }
+    requires proves { ProvesTracks style.wiring inputs.now tracks.now }
+    ensures { IfOk result (MakesLowTo (kind_of gaps) style inputs.now stem.now) }
 {
     inputs.show_limits();
     let listing = beside(alloc, inputs, least, row, gaps)?;
-    let evidence = low_evidence(alloc, &inputs.cell, stem, listing, tracks)?;
-    let style = Style {
-        wiring: Wiring::Straight,
-        taps,
-    };
+    let evidence = low_evidence(alloc, style.wiring, &inputs.cell, stem, listing, tracks)?;
     drawn(alloc, inputs, stem, style, row, evidence)
 }
 
-// The cycle of the first least row, where no row that can be wired is known: there are no taps to draw.
+// The cycle of the first least row, where no row that can be wired is known.
 fn ringed(
     alloc: Global,
     inputs: &Inputs,
     stem: &Stem,
+    style: Style,
     least: &Arrangement,
     gaps: Certificate,
     ring: &Ring,
@@ -95,14 +92,16 @@ fn ringed(
     none_wired: bool,
 ) -> Result<End, NoMemory>
     requires found { IsFoundFor inputs.now least.now gaps }
-    requires ringed { IsRinged inputs.now least.now ring.now }
-    requires unwired { IsUnwiredEnd inputs.now tracks.now none_wired }
-    requires proves { ProvesTracks inputs.now tracks.now }
-    ensures { (taps : TapsOf) → IfOk result (MakesLowTo (kind_of gaps) taps inputs.now stem.now) }
+    requires routed { CanBeRouted style.wiring inputs.now least.now }
+    requires ringed { IsRinged style.wiring inputs.now least.now ring.now }
+    requires unwired { IsUnwiredEnd style.wiring inputs.now tracks.now none_wired }
+    requires proves { ProvesTracks style.wiring inputs.now tracks.now }
+    ensures { IfOk result (MakesLowTo (kind_of gaps) style inputs.now stem.now) }
 {
     inputs.show_limits();
-    let evidence = low_evidence(alloc, &inputs.cell, stem, gaps, tracks)?;
-    ring_end(alloc, inputs, ring, evidence, none_wired)
+    let evidence = low_evidence(alloc, style.wiring, &inputs.cell, stem, gaps, tracks)?;
+    let fewest = open_fewest(style.wiring, tracks);
+    ring_end(alloc, inputs, ring, evidence, none_wired, fewest)
 }
 
 // After the first least row was found.
@@ -110,21 +109,21 @@ fn found(
     alloc: Global,
     inputs: &Inputs,
     stem: &Stem,
-    taps: Taps,
+    style: Style,
     least: &Arrangement,
     gaps: Certificate,
 ) -> Result<End, NoMemory>
     requires { IsFoundFor inputs.now least.now gaps }
-    ensures { IfOk result (MakesLowTo (kind_of gaps) taps inputs.now stem.now) }
+    ensures { IfOk result (MakesLowTo (kind_of gaps) style inputs.now stem.now) }
 {
-    match LowPlanned::of(alloc, inputs, least)? {
+    match LowPlanned::of(alloc, inputs, style.wiring, least)? {
         LowPlanned::Found {
             placement,
             routing,
             certificate: tracks,
         } => {
             let end = lowest(
-                alloc, inputs, stem, taps, least, gaps, placement, routing, &tracks,
+                alloc, inputs, stem, style, least, gaps, placement, routing, &tracks,
             );
             drop(tracks);
             end
@@ -133,7 +132,7 @@ fn found(
             row,
             certificate: tracks,
         } => {
-            let end = wired(alloc, inputs, stem, taps, least, gaps, &row, &tracks);
+            let end = wired(alloc, inputs, stem, style, least, gaps, &row, &tracks);
             drop(tracks);
             end
         }
@@ -142,32 +141,34 @@ fn found(
             certificate: tracks,
             none_wired,
         } => {
-            let end = ringed(alloc, inputs, stem, least, gaps, &ring, &tracks, none_wired);
+            let end = ringed(
+                alloc, inputs, stem, style, least, gaps, &ring, &tracks, none_wired,
+            );
             drop(tracks);
             end
         }
     }
 }
 
-/// Of all rows that can be wired with the fewest gaps the first on the fewest tracks, drawn with the first of its
-/// routings on these tracks, with the evidence of the first least row and that of the tracks. Where the budget is spent
-/// before it is found: the first row that can be wired with the fewest gaps, with how many tracks each such row takes
-/// at least. Where no row can be wired, or none is found: a cycle of the first least row. Where no least row is found:
-/// what `make` leaves.
+/// Of all rows that can be wired with the fewest gaps the first on the fewest tracks, drawn in the style with the first
+/// of its routings on these tracks, with the evidence of the first least row and that of the tracks. Where the budget
+/// is spent before it is found: the first row that can be wired with the fewest gaps, with how many tracks each such
+/// row takes at least. Where no row can be wired, or none is found: a cycle of the first least row. Where no least row
+/// is found: what `make` leaves.
 pub fn make_low(
     alloc: Global,
     inputs: &Inputs,
     stem: &Stem,
-    taps: Taps,
+    style: Style,
     evidence: Evidence,
 ) -> Result<End, NoMemory>
-    ensures { IfOk result (MakesLowTo evidence taps inputs.now stem.now) }
+    ensures { IfOk result (MakesLowTo evidence style inputs.now stem.now) }
 {
     inputs.show_limits();
     let searched = Searched::of(alloc, inputs, evidence)?;
     match searched {
         Searched::Found { row, certificate } => {
-            found(alloc, inputs, stem, taps, &row, certificate)
+            found(alloc, inputs, stem, style, &row, certificate)
         }
         Searched::Open {
             certificate,

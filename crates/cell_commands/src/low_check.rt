@@ -12,14 +12,16 @@ use cell_num::{MOST_BYTES, Name, NoMemory};
 use cell_report::{put_low_checked, put_track_refusal};
 use row_state::{Component, kinds};
 use std::alloc::Global;
-use track_check::{TextRejected, TracksProved, check_text};
+use track_check::TextRejected;
+use turn_check::{LowProved, check_course};
 
-fn accepted_end(alloc: Global, name: &Name, proved: TracksProved) -> Result<End, NoMemory>
-    ensures { IfOk result (λ end.
-        end ≡ reports status.Done (low_checked_text name.now proved.gaps proved.tracks)) }
+fn accepted_end(alloc: Global, name: &Name, low: LowProved) -> Result<End, NoMemory>
+    ensures { IfOk result (λ end. end ≡ reports status.Done
+        (low_checked_text low.course name.now low.proved.gaps low.proved.tracks)) }
 {
     let mut report = Status::Done.report(alloc)?;
-    put_low_checked(&mut report, name, proved.gaps, proved.tracks)?;
+    let proved = low.proved;
+    put_low_checked(&mut report, low.course, name, proved.gaps, proved.tracks)?;
     Ok(End::says(alloc, Status::Done, report))
 }
 
@@ -33,7 +35,7 @@ fn rejected_end(alloc: Global, cause: &TextRejected) -> Result<End, NoMemory>
 }
 
 /// Whether the bytes are the text of a certificate of tracks that is accepted for the inputs: each arrangement of the
-/// fingers with at most its gaps takes its tracks at least.
+/// fingers with at most its gaps takes its tracks at least, with nets that go straight or may turn, as the text has it.
 pub fn check_low(alloc: Global, inputs: &Inputs, bytes: &[u8]) -> Result<End, NoMemory>
     requires { length bytes.now ≤ MOST_BYTES }
     ensures { IfOk result (LowChecksTo inputs.now bytes.now) }
@@ -41,8 +43,8 @@ pub fn check_low(alloc: Global, inputs: &Inputs, bytes: &[u8]) -> Result<End, No
     inputs.show_limits();
     let kinds = kinds(alloc, &inputs.fingers)?;
     let cell = &inputs.cell;
-    match check_text(alloc, &Component, &cell.pins, bytes, &cell.name, &kinds) {
-        Ok(proved) => accepted_end(alloc, &cell.name, proved),
+    match check_course(alloc, &Component, &cell.pins, bytes, &cell.name, &kinds) {
+        Ok(low) => accepted_end(alloc, &cell.name, low),
         Err(TextRejected::NoMemory) => Err(NoMemory),
         Err(cause) => rejected_end(alloc, &cause),
     }

@@ -14,7 +14,7 @@ use crate::material::{
 use call_end::Stem;
 use call_read::{Refusal, Source, read_file, read_inputs};
 use call_words::{CellAsked, Evidence};
-use cell_inputs::{Style, Taps};
+use cell_inputs::Style;
 use cell_io::Desk;
 use std::alloc::Global;
 
@@ -86,11 +86,11 @@ pub(crate) fn for_make_low<D: Desk>(
     desk: &mut D,
     asked: &CellAsked<'_>,
     out: &str,
-    taps: Taps,
+    style: Style,
     evidence: Evidence,
 ) -> Result<Material, Refusal>
     ensures comes { MayKeep (D.view desk.old) (D.view desk.new)
-        (gathered (Some (MakeLow asked.now out.now taps evidence))) result }
+        (gathered (Some (MakeLow asked.now out.now style evidence))) result }
     ensures quiet { KeepsReads result (D.view desk.old) (D.view desk.new) }
     ensures only { OnlyReads (D.view desk.old) (D.view desk.new) }
 {
@@ -99,7 +99,7 @@ pub(crate) fn for_make_low<D: Desk>(
     Ok(Material::Read(ReadMaterial::MakingLow(LowMaterial {
         inputs,
         stem,
-        taps,
+        style,
         evidence,
     })))
 }

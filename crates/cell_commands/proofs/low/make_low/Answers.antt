@@ -16,7 +16,7 @@ found-requires c =
 pub returns-in-Found : goal.returns-in-Found
 returns-in-Found c =
     let is : IsFoundBy c.args.evidence c.args.inputs.now c.in-Found.row c.in-Found.certificate = subst (IsSearched c.args.evidence c.args.inputs.now) c.in-Found.is c.in_ok-searched.ensures in
-    subst (λ (e : Evidence). IfOk c.found.result (MakesLowTo e c.args.taps c.args.inputs.now c.args.stem.now)) (found_kind c.args.evidence c.args.inputs.now c.in-Found.row c.in-Found.certificate is) c.found.ensures
+    subst (λ (e : Evidence). IfOk c.found.result (MakesLowTo e c.args.style c.args.inputs.now c.args.stem.now)) (found_kind c.args.evidence c.args.inputs.now c.in-Found.row c.in-Found.certificate is) c.found.ensures
 
 pub open_end-requires-clause-name : goal.open_end-requires-clause-name
 open_end-requires-clause-name c = inside_named c.args.inputs.now (inputs_of c.inputs.inside.tech c.inputs.inside.cell c.inputs.inside.fingers) c.inputs.view_is c.show_limits.ensures
@@ -29,11 +29,11 @@ open_end-requires-clause-fits c =
 pub returns-in-Open : goal.returns-in-Open
 returns-in-Open c =
     let spent : IsOpenBy c.args.evidence c.args.inputs.now c.in-Open.proved c.in-Open.certificate = subst (IsSearched c.args.evidence c.args.inputs.now) c.in-Open.is c.in_ok-searched.ensures in
-    open_low c.args.evidence c.args.taps c.args.inputs.now (inputs_of c.inputs.inside.tech c.inputs.inside.cell c.inputs.inside.fingers) c.args.stem.now c.in-Open.proved c.in-Open.certificate c.open_end.result
+    open_low c.args.evidence c.args.style c.args.inputs.now (inputs_of c.inputs.inside.tech c.inputs.inside.cell c.inputs.inside.fingers) c.args.stem.now c.in-Open.proved c.in-Open.certificate c.open_end.result
     c.inputs.view_is spent c.open_end.ensures
 
 pub returns-in-Crowded : goal.returns-in-Crowded
 returns-in-Crowded c =
     let crowded : Crowds c.args.evidence c.args.inputs.now c.in-Crowded.gate = subst (IsSearched c.args.evidence c.args.inputs.now) c.in-Crowded.is c.in_ok-searched.ensures in
-    crowded_low c.args.evidence c.args.taps c.args.inputs.now (inputs_of c.inputs.inside.tech c.inputs.inside.cell c.inputs.inside.fingers) c.args.stem.now c.in-Crowded.gate c.too_many_pairings.result
+    crowded_low c.args.evidence c.args.style c.args.inputs.now (inputs_of c.inputs.inside.tech c.inputs.inside.cell c.inputs.inside.fingers) c.args.stem.now c.in-Crowded.gate c.too_many_pairings.result
     c.inputs.view_is crowded c.too_many_pairings.ensures

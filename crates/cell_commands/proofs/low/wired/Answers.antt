@@ -19,9 +19,9 @@ drawn-requires c = record { arranged = c.requires.open.wired.arranges }
 
 pub returns : goal.returns
 returns c =
-    wired_made (kind_of c.args.gaps) c.args.taps c.args.inputs.now c.args.stem.now c.args.least.now c.args.row.now c.in_ok-listing.listing c.args.tracks.now (shown c.in_ok-evidence.evidence) c.drawn.result
-    (evidence_of (inputs_of c.inputs.inside.tech c.inputs.inside.cell c.inputs.inside.fingers) c.args.inputs.now c.args.stem.now c.in_ok-listing.listing c.args.tracks.now (shown c.in_ok-evidence.evidence) c.inputs.view_is c.in_ok-evidence.ensures)
+    wired_made (kind_of c.args.gaps) c.args.style c.args.inputs.now c.args.stem.now c.args.least.now c.args.row.now c.in_ok-listing.listing c.args.tracks.now (shown c.in_ok-evidence.evidence) c.drawn.result
+    (evidence_of c.args.style.wiring (inputs_of c.inputs.inside.tech c.inputs.inside.cell c.inputs.inside.fingers) c.args.inputs.now c.args.stem.now c.in_ok-listing.listing c.args.tracks.now (shown c.in_ok-evidence.evidence) c.inputs.view_is c.in_ok-evidence.ensures)
     c.requires.proves c.in_ok-listing.ensures
-    (found_there c.args.inputs.now c.args.least.now c.args.gaps c.show_limits.ensures c.requires.found)
+    (found_there c.args.style.wiring c.args.inputs.now c.args.least.now c.args.gaps c.show_limits.ensures c.requires.found c.requires.routed)
     (found_first (kind_of c.args.gaps) c.args.inputs.now c.args.least.now c.args.gaps c.requires.found)
     c.requires.open c.drawn.ensures

@@ -6,8 +6,8 @@ use Rattle.cell_commands.proofs.low_check.check_low.Goals as goal
 
 pub returns-in-Ok : goal.returns-in-Ok
 returns-in-Ok c =
-    accepted_checks (inputs_of c.inputs.inside.tech c.inputs.inside.cell c.inputs.inside.fingers) c.args.inputs.now c.args.bytes.now c.in_ok-kinds.kinds c.in-Ok.proved c.accepted_end.result
-    c.inputs.view_is c.in_ok-kinds.ensures.kinds c.in_ok-kinds.ensures.sound c.in-Ok.ensures.accepted c.in-Ok.ensures.more c.accepted_end.ensures
+    accepted_checks (inputs_of c.inputs.inside.tech c.inputs.inside.cell c.inputs.inside.fingers) c.args.inputs.now c.args.bytes.now c.in_ok-kinds.kinds c.in-Ok.low c.accepted_end.result
+    c.inputs.view_is c.in_ok-kinds.ensures.kinds c.in_ok-kinds.ensures.sound c.in-Ok.ensures.accepted (c.in-Ok.ensures.straight, c.in-Ok.ensures.turning) c.accepted_end.ensures
 
 pub returns : goal.returns
 returns c =
