@@ -23,9 +23,8 @@ use Rattle.cell_commands.specs.Certificate.{trails_evidence}
 use Rattle.cell_commands.specs.Make.{MakesTo}
 use Rattle.cell_commands.specs.Make as made
 use Rattle.cell_inputs.specs.declared.style.Style.{Style}
-use Rattle.cell_inputs.specs.declared.style.Taps.{Taps}
+use Rattle.cell_inputs.specs.declared.style.Wiring.{Wiring}
 use Rattle.cell_inputs.specs.Inputs.{Inputs}
-use Rattle.cell_make.specs.Low.{low_style}
 use Rattle.channel_route.specs.declared.ring.Ring.{Ring}
 use Rattle.spice_net.specs.declared.subckt.Subckt.{Subckt}
 use Rattle.track_log.specs.declared.certificate.TrackCertificate.{TrackCertificate}
@@ -98,16 +97,16 @@ makes_end evidence style inputs out end (made.Made row (held.Trails trails) draw
 makes_end evidence style inputs out end (made.Open proved certificate, h, is) = open_end inputs.cell out proved certificate end is
 makes_end evidence style inputs out end (made.Crowded gate, h, is) = by_names end.files [] [] is.files refl tt
 
-unwired_end : (inputs : Inputs) (out : List ℕ) (certificate : Certificate) (tracks : TrackCertificate) (ring : Ring) (end : End) → low.IsUnwiredEnd inputs out certificate tracks ring end → AreDistinct (names_of end.files)
-unwired_end inputs out (held.Log log) tracks ring end is = by_names end.files (told_files (Low Log tracks) inputs.cell out (evidence_text Log inputs.cell.name log)) _ is.files refl (distinct_alone (Low Log tracks) inputs.cell out (evidence_text Log inputs.cell.name log))
-unwired_end inputs out (held.Trails trails) tracks ring end is = by_names end.files (told_files (Low Trails tracks) inputs.cell out (evidence_text Trails inputs.cell.name trails)) _ is.files refl (distinct_alone (Low Trails tracks) inputs.cell out (evidence_text Trails inputs.cell.name trails))
+unwired_end : (wiring : Wiring) (inputs : Inputs) (out : List ℕ) (certificate : Certificate) (tracks : TrackCertificate) (ring : Ring) (end : End) → low.IsUnwiredEnd wiring inputs out certificate tracks ring end → AreDistinct (names_of end.files)
+unwired_end wiring inputs out (held.Log log) tracks ring end is = by_names end.files (told_files (Low Log wiring tracks) inputs.cell out (evidence_text Log inputs.cell.name log)) _ is.files refl (distinct_alone (Low Log wiring tracks) inputs.cell out (evidence_text Log inputs.cell.name log))
+unwired_end wiring inputs out (held.Trails trails) tracks ring end is = by_names end.files (told_files (Low Trails wiring tracks) inputs.cell out (evidence_text Trails inputs.cell.name trails)) _ is.files refl (distinct_alone (Low Trails wiring tracks) inputs.cell out (evidence_text Trails inputs.cell.name trails))
 
-low_end : (evidence : Evidence) (taps : Taps) (inputs : Inputs) (out : List ℕ) (end : End) → low.MakesLowTo evidence taps inputs out end → AreDistinct (names_of end.files)
-low_end evidence taps inputs out end (low.Made row (held.Log log) tracks drawing, h, is) = row_end (Low Log tracks) (evidence_text Log inputs.cell.name log) (low_style taps) inputs out row (low.low_evidence inputs.cell out (held.Log log) tracks) drawing end refl is
-low_end evidence taps inputs out end (low.Made row (held.Trails trails) tracks drawing, h, is) = row_end (Low Trails tracks) (evidence_text Trails inputs.cell.name trails) (low_style taps) inputs out row (low.low_evidence inputs.cell out (held.Trails trails) tracks) drawing end refl is
-low_end evidence taps inputs out end (low.Unwired row certificate tracks ring, h, is) = unwired_end inputs out certificate tracks ring end is
-low_end evidence taps inputs out end (low.Open proved certificate, h, is) = open_end inputs.cell out proved certificate end is
-low_end evidence taps inputs out end (low.Crowded gate, h, is) = by_names end.files [] [] is.files refl tt
+low_end : (evidence : Evidence) (style : Style) (inputs : Inputs) (out : List ℕ) (end : End) → low.MakesLowTo evidence style inputs out end → AreDistinct (names_of end.files)
+low_end evidence style inputs out end (low.Made row (held.Log log) tracks drawing, h, is) = row_end (Low Log style.wiring tracks) (evidence_text Log inputs.cell.name log) style inputs out row (low.low_evidence style.wiring inputs.cell out (held.Log log) tracks) drawing end refl is
+low_end evidence style inputs out end (low.Made row (held.Trails trails) tracks drawing, h, is) = row_end (Low Trails style.wiring tracks) (evidence_text Trails inputs.cell.name trails) style inputs out row (low.low_evidence style.wiring inputs.cell out (held.Trails trails) tracks) drawing end refl is
+low_end evidence style inputs out end (low.Unwired row certificate tracks ring, h, is) = unwired_end style.wiring inputs out certificate tracks ring end is
+low_end evidence style inputs out end (low.Open proved certificate, h, is) = open_end inputs.cell out proved certificate end is
+low_end evidence style inputs out end (low.Crowded gate, h, is) = by_names end.files [] [] is.files refl tt
 
 from_end : (m : FromMaterial) (end : End) → WorksTo MakingFrom m end → AreDistinct (names_of end.files)
 from_end m end (inl (row, certificate, listed, (drawing, h, is))) = row_end (File m.evidence m.bytes) [] m.style m.inputs m.stem row (given_evidence certificate) drawing end refl is
@@ -130,7 +129,7 @@ rows_end r out end (Unabutted made fault, h, is) = none_listed end.files (ap (λ
 distinct_end : (kind : Kind) (m : MaterialOf kind) (end : End) → WorksTo kind m end → AreDistinct (names_of end.files)
 distinct_end Making m end works = makes_end m.evidence m.style m.inputs m.stem end works
 distinct_end MakingFrom m end works = from_end m end works
-distinct_end MakingLow m end works = low_end m.evidence m.taps m.inputs m.stem end works
+distinct_end MakingLow m end works = low_end m.evidence m.style m.inputs m.stem end works
 distinct_end Rowing m end works = rows_end m.inputs m.stem end works
 distinct_end Planning m end works = without_files Planning end refl (files_by Planning m end works)
 distinct_end Checking m end works = without_files Checking end refl (files_by Checking m end works)

@@ -5,10 +5,10 @@ use Rattle.std.proofs.lemmas.List.{append_cancel_left}
 use Rattle.std.proofs.lemmas.List.Elements.{All-cons, All-head, All-nil, All-tail, All-take}
 use Rattle.spice_net.specs.declared.subckt.Subckt.{Subckt}
 use Rattle.track_log.specs.declared.certificate.TrackCertificate.{TrackCertificate}
-use Rattle.track_log.specs.Text.{certificate_text}
 use Rattle.call_words.specs.declared.evidence.Evidence.{Evidence}
 use Rattle.call_words.specs.declared.evidence.Evidence.TheVariants.{Log, Trails}
-use Rattle.cell_commands.specs.Low.{track_files}
+use Rattle.cell_commands.specs.Low.{track_files, tracks_text}
+use Rattle.cell_inputs.specs.declared.style.Wiring.{Wiring}
 use Rattle.cell_run.specs.Created.{AreDistinct}
 use Rattle.cell_run.specs.Evidence.{evidence_name}
 use Rattle.cell_run.specs.Origin.{Origin, Search, File, Low, cell_files, low_files}
@@ -102,8 +102,8 @@ apart_of name (file ∷ listed) h =
 -- ---- the files of the lowest row
 
 -- the certificate of tracks has one file, or none
-track_cases : (cell : Subckt) (out : List ℕ) (tracks : TrackCertificate) → (track_files cell out tracks ≡ []) ⊎ (track_files cell out tracks ≡ (out ++ codes ".ctrack", certificate_text cell.name tracks) ∷ [])
-track_cases cell out tracks = one_of (tracks.tracks == 0) [] ((out ++ codes ".ctrack", certificate_text cell.name tracks) ∷ [])
+track_cases : (wiring : Wiring) (cell : Subckt) (out : List ℕ) (tracks : TrackCertificate) → (track_files wiring cell out tracks ≡ []) ⊎ (track_files wiring cell out tracks ≡ (out ++ codes ".ctrack", tracks_text wiring cell tracks) ∷ [])
+track_cases wiring cell out tracks = one_of (tracks.tracks == 0) [] ((out ++ codes ".ctrack", tracks_text wiring cell tracks) ∷ [])
   where
     one_of : (none : Bool) (xs ys : List (List ℕ × List ℕ)) → ((if none then xs else ys) ≡ xs) ⊎ ((if none then xs else ys) ≡ ys)
     one_of true xs ys = inl refl
@@ -124,16 +124,16 @@ without_drawing evidence out text more listed (inr one) = rw one (both_evident e
 abbrev pub told_files : Origin → Subckt → List ℕ → List ℕ → List (List ℕ × List ℕ)
 told_files (Search evidence) cell out text = (evidence_name evidence out, text) ∷ []
 told_files (File evidence given) cell out text = []
-told_files (Low evidence tracks) cell out text = low_files evidence tracks cell out text
+told_files (Low evidence wiring tracks) cell out text = low_files evidence wiring tracks cell out text
 
 pub distinct_drawn : (origin : Origin) (cell : Subckt) (out text bytes summary : List ℕ) → AreDistinct (map first_of (told_files origin cell out text ++ cell_files out bytes summary))
 distinct_drawn (Search evidence) cell out text bytes summary = distinct_three evidence out
 distinct_drawn (File evidence given) cell out text bytes summary = distinct_two out
-distinct_drawn (Low evidence tracks) cell out text bytes summary =
-    with_drawing evidence out text bytes summary (certificate_text cell.name tracks) (track_files cell out tracks) (track_cases cell out tracks)
+distinct_drawn (Low evidence wiring tracks) cell out text bytes summary =
+    with_drawing evidence out text bytes summary (tracks_text wiring cell tracks) (track_files wiring cell out tracks) (track_cases wiring cell out tracks)
 
 pub distinct_alone : (origin : Origin) (cell : Subckt) (out text : List ℕ) → AreDistinct (map first_of (told_files origin cell out text))
 distinct_alone (Search evidence) cell out text = distinct_one (evidence_name evidence out)
 distinct_alone (File evidence given) cell out text = tt
-distinct_alone (Low evidence tracks) cell out text =
-    without_drawing evidence out text (certificate_text cell.name tracks) (track_files cell out tracks) (track_cases cell out tracks)
+distinct_alone (Low evidence wiring tracks) cell out text =
+    without_drawing evidence out text (tracks_text wiring cell tracks) (track_files wiring cell out tracks) (track_cases wiring cell out tracks)

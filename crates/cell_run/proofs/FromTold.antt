@@ -24,7 +24,7 @@ use Rattle.call_work.specs.Ends.{is_among}
 use Rattle.call_work.specs.Evidence.{evidence_file}
 use Rattle.cell_inputs.specs.declared.style.Style.{Style}
 use Rattle.cell_inputs.specs.Inputs.{Inputs}
-use Rattle.cell_make.specs.Low.{IsLeast}
+use Rattle.cell_make.specs.LowRows.{IsLeast}
 use Rattle.cell_make.specs.Making.{IsRouted}
 use Rattle.cell_make.specs.Rows.{DrawAnswer, Draws, RowDrawn, RowCyclic, RowTall}
 use Rattle.cell_commands.specs.declared.certificate.Certificate.{Certificate}

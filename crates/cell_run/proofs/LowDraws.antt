@@ -7,8 +7,6 @@ use Rattle.row_search.specs.First.{IsFirstLeast}
 use Rattle.row_place.specs.Places.{placement_of}
 use Rattle.channel_route.specs.declared.ring.Ring.{Ring}
 use Rattle.channel_route.specs.declared.routing.Routing.{Routing}
-use Rattle.channel_route.proofs.Routes.{some_routing}
-use Rattle.channel_route.specs.Routing.{HasTightRouting}
 use Rattle.track_log.specs.declared.certificate.TrackCertificate.{TrackCertificate}
 use Rattle.call_end.specs.declared.end.End.{End}
 use Rattle.call_end.specs.declared.status.Status.{Status}
@@ -22,10 +20,14 @@ use Rattle.call_work.specs.Commands.{Material, MakingLow, gathered}
 use Rattle.call_work.specs.Ends.{EndsTo, IsOfOutside, desk_statuses, is_among}
 use Rattle.call_work.proofs.Statuses.{among_one}
 use Rattle.call_work.specs.declared.material.LowMaterial.{LowMaterial}
-use Rattle.cell_inputs.specs.declared.style.Taps.{Taps}
+use Rattle.cell_inputs.specs.declared.style.Style.{Style}
+use Rattle.cell_inputs.specs.declared.style.Wiring.{Wiring}
+use Rattle.cell_inputs.specs.declared.style.Wiring.TheVariants.{Straight, Doglegs}
 use Rattle.cell_inputs.specs.Inputs.{Inputs}
 use Rattle.cell_make.proofs.RowOrder.{one_row}
-use Rattle.cell_make.specs.Low.{DrawsLow, HasFirstLeast, IsFirstLeastWired, IsLeastWired, IsLowRouted, IsRinged, IsWired, low_style}
+use Rattle.cell_make.specs.Low.{DrawsLow, IsLowRouted}
+use Rattle.cell_make.specs.LowRows.{HasFirstLeast, IsFirstLeastWired, IsLeastWired, IsRinged, IsWired, NoneIsWired}
+use Rattle.cell_make.specs.LowUnwired.{ProvesUnwired}
 use Rattle.cell_make.specs.Rows.{DrawAnswer, RowDrawn, RowCyclic, RowTall}
 use Rattle.cell_make.specs.Making.{IsRouted}
 use Rattle.cell_commands.specs.declared.certificate.Certificate.{Certificate}
@@ -45,52 +47,57 @@ use Rattle.cell_run.specs.Low.{CanBeMadeLow, CanFirstBeDrawn, DrawsFirst, Leaves
 -- ---- the first least row
 
 -- what `make` draws of it
-pub record IsDrawnFirst (taps : Taps) (inputs : Inputs) : Type 0 where
+pub record IsDrawnFirst (style : Style) (inputs : Inputs) : Type 0 where
   pub row : List Column
   pub first : IsFirstLeast inputs.fingers row
   pub routing : Routing
-  pub routed : IsRouted (low_style taps) inputs row routing
+  pub routed : IsRouted style inputs row routing
   pub fits : IsTooTall row routing.tracks inputs.tech.height → ⊥
 
--- without a cycle it has a routing
-pub drawn_first : (taps : Taps) (inputs : Inputs) → HasFirstLeast inputs → CanFirstBeDrawn (low_style taps) inputs → IsDrawnFirst taps inputs
-drawn_first taps inputs there can =
-    let fits : CanBeDrawn (low_style taps) inputs there.row = can there.row there.first in
-    let some : HasTightRouting (placement_of there.row) inputs.cell.pins = some_routing (placement_of there.row) inputs.cell.pins there.pins fits.acyclic in
-    let routed : IsRouted (low_style taps) inputs there.row some.routing = record { acyclic = fits.acyclic; legal = some.legal; tight = some.tight } in
-    record { row = there.row; first = there.first; routing = some.routing; routed = routed; fits = fits.fits some.routing routed }
+-- without a cycle it can be routed
+pub drawn_first : (style : Style) (inputs : Inputs) → HasFirstLeast style.wiring inputs → CanFirstBeDrawn style inputs → IsDrawnFirst style inputs
+drawn_first style inputs there can =
+    let fits : CanBeDrawn style inputs there.row = can there.row there.first in
+    let (routing, legal, tight) = there.routed fits.acyclic in
+    let routed : IsRouted style inputs there.row routing = record { acyclic = fits.acyclic; legal = legal; tight = tight } in
+    record { row = there.row; first = there.first; routing = routing; routed = routed; fits = fits.fits routing routed }
 
 -- ---- where the budget is enough
 
 -- the first least row is the first that can be wired with the fewest gaps
-first_wired : (taps : Taps) (inputs : Inputs) (row : List Column) (drawn : IsDrawnFirst taps inputs) → IsFirstLeastWired inputs row → drawn.row ≡ row
-first_wired taps inputs row drawn first =
-    let wired : IsWired inputs drawn.row = (drawn.routing, drawn.routed.legal) in
-    let least : IsLeastWired inputs drawn.row = record { arranges = drawn.first.arranges; wired = wired; least = λ other arranged able. drawn.first.least other arranged } in
+first_wired : (style : Style) (inputs : Inputs) (row : List Column) (drawn : IsDrawnFirst style inputs) → IsFirstLeastWired style.wiring inputs row → drawn.row ≡ row
+first_wired style inputs row drawn first =
+    let wired : IsWired style.wiring inputs drawn.row = (drawn.routing, drawn.routed.legal) in
+    let least : IsLeastWired style.wiring inputs drawn.row = record { arranges = drawn.first.arranges; wired = wired; least = λ other arranged able. drawn.first.least other arranged } in
     let same : gaps_of row ≡ gaps_of drawn.row = omega (arith, drawn.first.least row first.least.arranges, first.least.least drawn.row drawn.first.arranges wired) in
     one_row drawn.row row (drawn.first.first row first.least.arranges same) (first.first drawn.row least)
 
 -- the lowest row has no more tracks than the first least one, so it is no taller
-pub never_tall : (taps : Taps) (inputs : Inputs) (row : List Column) (tracks : TrackCertificate) (routing : Routing) → CanFirstBeDrawn (low_style taps) inputs → IsDrawnFirst taps inputs → IsLowRouted (low_style taps) inputs row tracks routing → IsTooTall row routing.tracks inputs.tech.height → ⊥
-never_tall taps inputs row tracks routing can drawn (inr h) tall =
-    let first : IsFirstLeast inputs.fingers row = subst (IsFirstLeast inputs.fingers) (first_wired taps inputs row drawn h.first) drawn.first in
+pub never_tall : (style : Style) (inputs : Inputs) (row : List Column) (tracks : TrackCertificate) (routing : Routing) → CanFirstBeDrawn style inputs → IsDrawnFirst style inputs → IsLowRouted style inputs row tracks routing → IsTooTall row routing.tracks inputs.tech.height → ⊥
+never_tall style inputs row tracks routing can drawn (inr h) tall =
+    let first : IsFirstLeast inputs.fingers row = subst (IsFirstLeast inputs.fingers) (first_wired style inputs row drawn h.first) drawn.first in
     (can row first).fits routing h.routed tall
-never_tall taps inputs row tracks routing can drawn (inl h) tall =
+never_tall style inputs row tracks routing can drawn (inl h) tall =
     let few : routing.tracks ≤ drawn.routing.tracks = h.fewest drawn.row drawn.routing drawn.first.arranges (drawn.first.least row h.least.arranges) drawn.routed.legal in
     drawn.fits (also_tall inputs.fingers row drawn.row routing.tracks drawn.routing.tracks inputs.tech.height h.least.arranges drawn.first.arranges few tall)
 
-low_draws : (taps : Taps) (inputs : Inputs) (out : List ℕ) (row : List Column) (certificate : Certificate) (tracks : TrackCertificate) (drawing : DrawAnswer) (end : End) → CanFirstBeDrawn (low_style taps) inputs → IsDrawnFirst taps inputs → DrawsLow (low_style taps) inputs row tracks drawing → IsRowEnd (low_style taps) inputs out row (low_evidence inputs.cell out certificate tracks) drawing end → end.status ≡ status.Done
-low_draws taps inputs out row certificate tracks (RowDrawn routing xs) end can drawn h is = is.status
-low_draws taps inputs out row certificate tracks (RowCyclic ring) end can drawn (draws, (first, none)) is = absurd (none.none drawn.row drawn.first.arranges (drawn.routing, drawn.routed.legal))
-low_draws taps inputs out row certificate tracks (RowTall routing) end can drawn ((routed, tall), stop) is = absurd (never_tall taps inputs row tracks routing can drawn routed tall)
+-- where it is proved that no row can be wired, none can
+none_wired : (wiring : Wiring) (inputs : Inputs) (tracks : TrackCertificate) → ProvesUnwired wiring inputs tracks → NoneIsWired wiring inputs
+none_wired Straight inputs tracks proves = proves.none
+none_wired Doglegs inputs tracks proves = absurd proves
+
+low_draws : (style : Style) (inputs : Inputs) (out : List ℕ) (row : List Column) (certificate : Certificate) (tracks : TrackCertificate) (drawing : DrawAnswer) (end : End) → CanFirstBeDrawn style inputs → IsDrawnFirst style inputs → DrawsLow style inputs row tracks drawing → IsRowEnd style inputs out row (low_evidence style.wiring inputs.cell out certificate tracks) drawing end → end.status ≡ status.Done
+low_draws style inputs out row certificate tracks (RowDrawn routing xs) end can drawn h is = is.status
+low_draws style inputs out row certificate tracks (RowCyclic ring) end can drawn (draws, (first, none)) is = absurd (none_wired style.wiring inputs tracks none drawn.row drawn.first.arranges (drawn.routing, drawn.routed.legal))
+low_draws style inputs out row certificate tracks (RowTall routing) end can drawn ((routed, tall), stop) is = absurd (never_tall style inputs row tracks routing can drawn routed tall)
 
 -- the first least row has no ring
-never_unwired : (evidence : Evidence) (taps : Taps) (inputs : Inputs) (row : List Column) (certificate : Certificate) (ring : Ring) → CanFirstBeDrawn (low_style taps) inputs → IsFoundBy evidence inputs row certificate → IsRinged inputs row ring → ⊥
-never_unwired evidence taps inputs row certificate ring can found ringed = ringed.cyclic (can row (found_first evidence inputs row certificate found)).acyclic
+never_unwired : (evidence : Evidence) (style : Style) (inputs : Inputs) (row : List Column) (certificate : Certificate) (ring : Ring) → CanFirstBeDrawn style inputs → IsFoundBy evidence inputs row certificate → IsRinged style.wiring inputs row ring → ⊥
+never_unwired evidence style inputs row certificate ring can found ringed = ringed.cyclic (can row (found_first evidence inputs row certificate found)).acyclic
 
-low_draws_where : (m : LowMaterial) (end : End) → CanBeMadeLow m → MakesLowTo m.evidence m.taps m.inputs m.stem end → end.status ≡ status.Done
-low_draws_where m end can (low.Made row certificate tracks drawing, (proves, certified, there, h), is) = low_draws m.taps m.inputs m.stem row certificate tracks drawing end can.1 (drawn_first m.taps m.inputs there can.1) h is
-low_draws_where m end can (low.Unwired row certificate tracks ring, (proves, spent, found, ringed), is) = absurd (never_unwired m.evidence m.taps m.inputs row certificate ring can.1 found ringed)
+low_draws_where : (m : LowMaterial) (end : End) → CanBeMadeLow m → MakesLowTo m.evidence m.style m.inputs m.stem end → end.status ≡ status.Done
+low_draws_where m end can (low.Made row certificate tracks drawing, (proves, certified, there, h), is) = low_draws m.style m.inputs m.stem row certificate tracks drawing end can.1 (drawn_first m.style m.inputs there can.1) h is
+low_draws_where m end can (low.Unwired row certificate tracks ring, (proves, open', found, ringed), is) = absurd (never_unwired m.evidence m.style m.inputs row certificate ring can.1 found ringed)
 low_draws_where m end can (low.Open proved certificate, h, is) = absurd (enough_found m.evidence m.inputs proved certificate can.0 h)
 low_draws_where m end can (low.Crowded gate, h, is) = absurd (enough_pairs m.evidence m.inputs gate can.0 h)
 
@@ -100,20 +107,20 @@ low_draws_told a c form answer given told = settles MakingLow CanBeMadeLow form 
 -- ---- whatever the budget is
 
 -- the first search alone can be left open
-drawn_or_open : (m : LowMaterial) (end : End) → CanFirstBeDrawn (low_style m.taps) m.inputs → MakesLowTo m.evidence m.taps m.inputs m.stem end → (end.status ≡ status.Done) ⊎ (end.status ≡ status.Unfinished)
-drawn_or_open m end can (low.Made row certificate tracks drawing, (proves, certified, there, h), is) = inl (low_draws m.taps m.inputs m.stem row certificate tracks drawing end can (drawn_first m.taps m.inputs there can) h is)
-drawn_or_open m end can (low.Unwired row certificate tracks ring, (proves, spent, found, ringed), is) = absurd (never_unwired m.evidence m.taps m.inputs row certificate ring can found ringed)
+drawn_or_open : (m : LowMaterial) (end : End) → CanFirstBeDrawn m.style m.inputs → MakesLowTo m.evidence m.style m.inputs m.stem end → (end.status ≡ status.Done) ⊎ (end.status ≡ status.Unfinished)
+drawn_or_open m end can (low.Made row certificate tracks drawing, (proves, certified, there, h), is) = inl (low_draws m.style m.inputs m.stem row certificate tracks drawing end can (drawn_first m.style m.inputs there can) h is)
+drawn_or_open m end can (low.Unwired row certificate tracks ring, (proves, open', found, ringed), is) = absurd (never_unwired m.evidence m.style m.inputs row certificate ring can found ringed)
 drawn_or_open m end can (low.Open proved certificate, h, is) = inr is.status
 drawn_or_open m end can (low.Crowded gate, h, is) = inr is.status
 
-keeps_so : (m : LowMaterial) (end : End) (answer : Status) (old new : View) → CanFirstBeDrawn (low_style m.taps) m.inputs → MakesLowTo m.evidence m.taps m.inputs m.stem end → TellsWhole end answer old new → (answer ≡ status.Done) ⊎ ((answer ≡ status.Unfinished) × IsUnmade m.evidence m.inputs m.stem old new)
-keeps_so m end answer old new can (low.Made row certificate tracks drawing, (proves, certified, there, h), is) whole = inl (whole.0 ∙ low_draws m.taps m.inputs m.stem row certificate tracks drawing end can (drawn_first m.taps m.inputs there can) h is)
-keeps_so m end answer old new can (low.Unwired row certificate tracks ring, (proves, spent, found, ringed), is) whole = absurd (never_unwired m.evidence m.taps m.inputs row certificate ring can found ringed)
+keeps_so : (m : LowMaterial) (end : End) (answer : Status) (old new : View) → CanFirstBeDrawn m.style m.inputs → MakesLowTo m.evidence m.style m.inputs m.stem end → TellsWhole end answer old new → (answer ≡ status.Done) ⊎ ((answer ≡ status.Unfinished) × IsUnmade m.evidence m.inputs m.stem old new)
+keeps_so m end answer old new can (low.Made row certificate tracks drawing, (proves, certified, there, h), is) whole = inl (whole.0 ∙ low_draws m.style m.inputs m.stem row certificate tracks drawing end can (drawn_first m.style m.inputs there can) h is)
+keeps_so m end answer old new can (low.Unwired row certificate tracks ring, (proves, open', found, ringed), is) whole = absurd (never_unwired m.evidence m.style m.inputs row certificate ring can found ringed)
 keeps_so m end answer old new can (low.Open proved certificate, h, is) whole = inr (whole.0 ∙ is.status, inl (open_so m.evidence m.inputs m.stem proved certificate end answer old new h is whole))
 keeps_so m end answer old new can (low.Crowded gate, h, is) whole = inr (whole.0 ∙ is.status, inr (crowded_so m.evidence m.inputs gate end answer old new h is whole))
 
 -- by the status that the files call for, where memory ran out or writing failed
-keeps_short : (m : LowMaterial) (files : Files) (form : Option Form) (answer : Status) (a c : View) → CanFirstBeDrawn (low_style m.taps) m.inputs → called files (gathered form) ≡ Ok (MakingLow, m) → IsOfOutside answer → Completes form files answer → IsDoneOrShort answer ⊎ LeavesGapsOpen files form answer a c
+keeps_short : (m : LowMaterial) (files : Files) (form : Option Form) (answer : Status) (a c : View) → CanFirstBeDrawn m.style m.inputs → called files (gathered form) ≡ Ok (MakingLow, m) → IsOfOutside answer → Completes form files answer → IsDoneOrShort answer ⊎ LeavesGapsOpen files form answer a c
 keeps_short m files form answer a c can got outside (inr short) = inl (inr short)
 keeps_short m files form answer a c can got outside (inl (end, calls, same)) =
     elim (drawn_or_open m end can (subst (λ (r : Result Material Refusal). EndsTo r end) got calls)) [

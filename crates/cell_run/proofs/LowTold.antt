@@ -23,9 +23,13 @@ use Rattle.call_work.proofs.EachCommand.{is_make_low}
 use Rattle.call_work.specs.Commands.{Material, MakingLow, gathered, making_low}
 use Rattle.call_work.specs.Ends.{is_among}
 use Rattle.call_work.specs.declared.material.LowMaterial.{LowMaterial}
-use Rattle.cell_inputs.specs.declared.style.Taps.{Taps}
+use Rattle.cell_inputs.specs.declared.style.Style.{Style}
+use Rattle.cell_inputs.specs.declared.style.Wiring.{Wiring}
 use Rattle.cell_inputs.specs.Inputs.{Inputs}
-use Rattle.cell_make.specs.Low.{DrawsLow, IsLeastWired, IsLowRouted, IsRinged, IsWiredSpent, ProvesTracks, low_style}
+use Rattle.cell_make.specs.Low.{DrawsLow, IsLowRouted}
+use Rattle.cell_make.specs.LowRows.{IsLeastWired, IsRinged}
+use Rattle.cell_make.specs.LowTracks.{ProvesTracks}
+use Rattle.cell_make.specs.LowUnwired.{IsUnwiredOpen}
 use Rattle.cell_make.specs.Rows.{DrawAnswer, RowDrawn, RowCyclic, RowTall}
 use Rattle.cell_commands.specs.declared.certificate.Certificate.{Certificate}
 use Rattle.cell_commands.specs.declared.certificate.Certificate.TheVariants as held
@@ -51,20 +55,20 @@ abbrev low_of : Result Material Refusal → Option LowMaterial
 low_of (Ok (MakingLow, m)) = Some m
 low_of _ = None
 
-words_for : (files : Files) (asked : CellAsked) (out : List ℕ) (taps : Taps) (evidence : Evidence) (m : LowMaterial) → called files (gathered (Some (MakeLow asked out taps evidence))) ≡ Ok (MakingLow, m) → IsAskedLow (Some (MakeLow asked out taps evidence)) m
-words_for files asked out taps evidence m got =
-    let read = called_parts files (inputs_from asked) (λ i. Ends (Ok (making_low evidence out taps i))) (MakingLow, m) got in
-    let same : (making_low evidence out taps read.0).1 ≡ m = some_same (making_low evidence out taps read.0).1 m (ap low_of read.2) in
+words_for : (files : Files) (asked : CellAsked) (out : List ℕ) (style : Style) (evidence : Evidence) (m : LowMaterial) → called files (gathered (Some (MakeLow asked out style evidence))) ≡ Ok (MakingLow, m) → IsAskedLow (Some (MakeLow asked out style evidence)) m
+words_for files asked out style evidence m got =
+    let read = called_parts files (inputs_from asked) (λ i. Ends (Ok (making_low evidence out style i))) (MakingLow, m) got in
+    let same : (making_low evidence out style read.0).1 ≡ m = some_same (making_low evidence out style read.0).1 m (ap low_of read.2) in
     record {
       asked = asked;
-      words = ap (λ (x : LowMaterial). Some (MakeLow asked x.stem x.taps x.evidence)) same;
+      words = ap (λ (x : LowMaterial). Some (MakeLow asked x.stem x.style x.evidence)) same;
       name = ap (λ (x : LowMaterial). x.inputs.cell.name) (sym same) ∙ asked_name files asked read.0 read.1;
     }
 
-asked_so : (files : Files) (form : Form) (m : LowMaterial) → (asked : CellAsked) × (out : List ℕ) × (taps : Taps) × (evidence : Evidence) × (form ≡ MakeLow asked out taps evidence) → called files (gathered (Some form)) ≡ Ok (MakingLow, m) → IsAskedLow (Some form) m
-asked_so files form m (asked, out, taps, evidence, is) got =
+asked_so : (files : Files) (form : Form) (m : LowMaterial) → (asked : CellAsked) × (out : List ℕ) × (style : Style) × (evidence : Evidence) × (form ≡ MakeLow asked out style evidence) → called files (gathered (Some form)) ≡ Ok (MakingLow, m) → IsAskedLow (Some form) m
+asked_so files form m (asked, out, style, evidence, is) got =
     subst (λ (f : Form). IsAskedLow (Some f) m) (sym is)
-    (words_for files asked out taps evidence m (subst (λ (f : Form). called files (gathered (Some f)) ≡ Ok (MakingLow, m)) is got))
+    (words_for files asked out style evidence m (subst (λ (f : Form). called files (gathered (Some f)) ≡ Ok (MakingLow, m)) is got))
 
 asked_for : (files : Files) (form : Option Form) (m : LowMaterial) → IsMakeLow form → called files (gathered form) ≡ Ok (MakingLow, m) → IsAskedLow form m
 asked_for files None m make got = absurd make
@@ -78,38 +82,38 @@ asked_told form answer settled Says (Some files) told = λ make is.
 
 -- ---- the row, by what drawing it results in
 
-low_routed : (evidence : Evidence) (taps : Taps) (inputs : Inputs) (row : List Column) (tracks : TrackCertificate) (routing : Routing) → IsLowRouted (low_style taps) inputs row tracks routing → IsRowRouted (Low evidence tracks) (low_style taps) inputs row routing
-low_routed evidence taps inputs row tracks routing (inl h) = record { acyclic = h.acyclic; legal = h.legal; tracks = inl h }
-low_routed evidence taps inputs row tracks routing (inr h) = record { acyclic = h.routed.acyclic; legal = h.routed.legal; tracks = inr h }
+low_routed : (evidence : Evidence) (style : Style) (inputs : Inputs) (row : List Column) (tracks : TrackCertificate) (routing : Routing) → IsLowRouted style inputs row tracks routing → IsRowRouted (Low evidence style.wiring tracks) style inputs row routing
+low_routed evidence style inputs row tracks routing (inl h) = record { acyclic = h.acyclic; legal = h.legal; tracks = inl h }
+low_routed evidence style inputs row tracks routing (inr h) = record { acyclic = h.routed.acyclic; legal = h.routed.legal; tracks = inr h }
 
-routed_wired : (taps : Taps) (inputs : Inputs) (row : List Column) (tracks : TrackCertificate) (routing : Routing) → IsLowRouted (low_style taps) inputs row tracks routing → IsLeastWired inputs row
-routed_wired taps inputs row tracks routing (inl h) = h.least
-routed_wired taps inputs row tracks routing (inr h) = h.first.least
+routed_wired : (style : Style) (inputs : Inputs) (row : List Column) (tracks : TrackCertificate) (routing : Routing) → IsLowRouted style inputs row tracks routing → IsLeastWired style.wiring inputs row
+routed_wired style inputs row tracks routing (inl h) = h.least
+routed_wired style inputs row tracks routing (inr h) = h.first.least
 
-low_row : (evidence : Evidence) (taps : Taps) (inputs : Inputs) (row : List Column) (tracks : TrackCertificate) (drawing : DrawAnswer) → DrawsLow (low_style taps) inputs row tracks drawing → IsRowBy (Low evidence tracks) inputs row drawing
-low_row evidence taps inputs row tracks (RowDrawn routing xs) (draws, stop) = routed_wired taps inputs row tracks routing draws.routed
-low_row evidence taps inputs row tracks (RowCyclic ring) (draws, stop) = stop
-low_row evidence taps inputs row tracks (RowTall routing) (draws, stop) = routed_wired taps inputs row tracks routing draws.0
+low_row : (evidence : Evidence) (style : Style) (inputs : Inputs) (row : List Column) (tracks : TrackCertificate) (drawing : DrawAnswer) → DrawsLow style inputs row tracks drawing → IsRowBy (Low evidence style.wiring tracks) inputs row drawing
+low_row evidence style inputs row tracks (RowDrawn routing xs) (draws, stop) = routed_wired style inputs row tracks routing draws.routed
+low_row evidence style inputs row tracks (RowCyclic ring) (draws, stop) = stop
+low_row evidence style inputs row tracks (RowTall routing) (draws, stop) = routed_wired style inputs row tracks routing draws.0
 
-low_drawn : (evidence : Evidence) (taps : Taps) (inputs : Inputs) (row : List Column) (tracks : TrackCertificate) (drawing : DrawAnswer) → DrawsLow (low_style taps) inputs row tracks drawing → IsDrawnBy (Low evidence tracks) (low_style taps) inputs row (IsLowRouted (low_style taps) inputs row tracks) drawing
-low_drawn evidence taps inputs row tracks drawing h = record {
-  routed = λ routing r. low_routed evidence taps inputs row tracks routing r;
-  from = low_row evidence taps inputs row tracks drawing h;
+low_drawn : (evidence : Evidence) (style : Style) (inputs : Inputs) (row : List Column) (tracks : TrackCertificate) (drawing : DrawAnswer) → DrawsLow style inputs row tracks drawing → IsDrawnBy (Low evidence style.wiring tracks) style inputs row (IsLowRouted style inputs row tracks) drawing
+low_drawn evidence style inputs row tracks drawing h = record {
+  routed = λ routing r. low_routed evidence style inputs row tracks routing r;
+  from = low_row evidence style inputs row tracks drawing h;
   draws = h.0;
 }
 
 -- ---- what it leaves, by its status
 
-abbrev pub LowLeaves : Evidence → Taps → Inputs → List ℕ → View → View → Status → Type 0
-LowLeaves evidence taps inputs out old new status.Done = (tracks : TrackCertificate) × IsMadeCell (Low evidence tracks) (low_style taps) inputs out old new
-LowLeaves evidence taps inputs out old new status.Cycle = (tracks : TrackCertificate) × IsCyclicCell (Low evidence tracks) (low_style taps) inputs out old new
-LowLeaves evidence taps inputs out old new status.TooTall = (tracks : TrackCertificate) × IsTallCell (Low evidence tracks) (low_style taps) inputs out old new
-LowLeaves evidence taps inputs out old new status.Unfinished = IsUnmade evidence inputs out old new ⊎ IsUnwiredCell evidence inputs out old new
-LowLeaves evidence taps inputs out old new _ = Unit {0}
+abbrev pub LowLeaves : Evidence → Style → Inputs → List ℕ → View → View → Status → Type 0
+LowLeaves evidence style inputs out old new status.Done = (tracks : TrackCertificate) × IsMadeCell (Low evidence style.wiring tracks) style inputs out old new
+LowLeaves evidence style inputs out old new status.Cycle = (tracks : TrackCertificate) × IsCyclicCell (Low evidence style.wiring tracks) style inputs out old new
+LowLeaves evidence style inputs out old new status.TooTall = (tracks : TrackCertificate) × IsTallCell (Low evidence style.wiring tracks) style inputs out old new
+LowLeaves evidence style inputs out old new status.Unfinished = IsUnmade evidence inputs out old new ⊎ IsUnwiredCell evidence style.wiring inputs out old new
+LowLeaves evidence style inputs out old new _ = Unit {0}
 
 -- `check .. --low` accepts the text of what proves the fewest tracks
-fewest_certified : (inputs : Inputs) (tracks : TrackCertificate) → ProvesTracks inputs tracks → CertifiesFewest inputs tracks
-fewest_certified inputs tracks proves = record { proves = proves; accepted = accepted_tracks inputs tracks proves }
+fewest_certified : (wiring : Wiring) (inputs : Inputs) (tracks : TrackCertificate) → ProvesTracks wiring inputs tracks → CertifiesFewest wiring inputs tracks
+fewest_certified wiring inputs tracks proves = record { proves = proves; accepted = accepted_tracks wiring inputs tracks proves }
 
 -- the certificate of the fewest gaps, by its kind
 low_log : (inputs : Inputs) (row : List Column) (log : SearchLog) → IsLowCertifiedBy Log inputs row (held.Log log) → CertifiesLow Log inputs row log
@@ -120,59 +124,59 @@ low_trails : (inputs : Inputs) (row : List Column) (trails : TrailCertificate) �
 low_trails inputs row trails (inl is) = inl is
 low_trails inputs row trails (inr (least, more, found)) = inr (record { least = least; first = found.first; more = more; certified = found.certified })
 
-made_so : (evidence : Evidence) (taps : Taps) (inputs : Inputs) (out : List ℕ) (row : List Column) (certificate : Certificate) (tracks : TrackCertificate) (drawing : DrawAnswer) (end : End) (answer : Status) (old new : View) → ProvesTracks inputs tracks → IsLowCertifiedBy evidence inputs row certificate → DrawsLow (low_style taps) inputs row tracks drawing → IsRowEnd (low_style taps) inputs out row (low_evidence inputs.cell out certificate tracks) drawing end → TellsWhole end answer old new → LowLeaves evidence taps inputs out old new answer
-made_so Log taps inputs out row (held.Log log) tracks drawing end answer old new proves certified h is whole =
-    row_leaves (Low Log tracks) (low_style taps) inputs out row log (IsLowRouted (low_style taps) inputs row tracks) drawing end answer old new (LowLeaves Log taps inputs out old new) (λ x. (tracks, x)) (λ x. (tracks, x)) (λ x. (tracks, x))
-    (low_log inputs row log certified, fewest_certified inputs tracks proves) (low_drawn Log taps inputs row tracks drawing h) is whole
-made_so Trails taps inputs out row (held.Trails trails) tracks drawing end answer old new proves certified h is whole =
-    row_leaves (Low Trails tracks) (low_style taps) inputs out row trails (IsLowRouted (low_style taps) inputs row tracks) drawing end answer old new (LowLeaves Trails taps inputs out old new) (λ x. (tracks, x)) (λ x. (tracks, x)) (λ x. (tracks, x))
-    (low_trails inputs row trails certified, fewest_certified inputs tracks proves) (low_drawn Trails taps inputs row tracks drawing h) is whole
-made_so Log taps inputs out row (held.Trails trails) tracks drawing end answer old new proves (inl none) h is whole = absurd none
-made_so Log taps inputs out row (held.Trails trails) tracks drawing end answer old new proves (inr (least, more, none)) h is whole = absurd none
-made_so Trails taps inputs out row (held.Log log) tracks drawing end answer old new proves (inl none) h is whole = absurd none
-made_so Trails taps inputs out row (held.Log log) tracks drawing end answer old new proves (inr (least, more, none)) h is whole = absurd none
+made_so : (evidence : Evidence) (style : Style) (inputs : Inputs) (out : List ℕ) (row : List Column) (certificate : Certificate) (tracks : TrackCertificate) (drawing : DrawAnswer) (end : End) (answer : Status) (old new : View) → ProvesTracks style.wiring inputs tracks → IsLowCertifiedBy evidence inputs row certificate → DrawsLow style inputs row tracks drawing → IsRowEnd style inputs out row (low_evidence style.wiring inputs.cell out certificate tracks) drawing end → TellsWhole end answer old new → LowLeaves evidence style inputs out old new answer
+made_so Log style inputs out row (held.Log log) tracks drawing end answer old new proves certified h is whole =
+    row_leaves (Low Log style.wiring tracks) style inputs out row log (IsLowRouted style inputs row tracks) drawing end answer old new (LowLeaves Log style inputs out old new) (λ x. (tracks, x)) (λ x. (tracks, x)) (λ x. (tracks, x))
+    (low_log inputs row log certified, fewest_certified style.wiring inputs tracks proves) (low_drawn Log style inputs row tracks drawing h) is whole
+made_so Trails style inputs out row (held.Trails trails) tracks drawing end answer old new proves certified h is whole =
+    row_leaves (Low Trails style.wiring tracks) style inputs out row trails (IsLowRouted style inputs row tracks) drawing end answer old new (LowLeaves Trails style inputs out old new) (λ x. (tracks, x)) (λ x. (tracks, x)) (λ x. (tracks, x))
+    (low_trails inputs row trails certified, fewest_certified style.wiring inputs tracks proves) (low_drawn Trails style inputs row tracks drawing h) is whole
+made_so Log style inputs out row (held.Trails trails) tracks drawing end answer old new proves (inl none) h is whole = absurd none
+made_so Log style inputs out row (held.Trails trails) tracks drawing end answer old new proves (inr (least, more, none)) h is whole = absurd none
+made_so Trails style inputs out row (held.Log log) tracks drawing end answer old new proves (inl none) h is whole = absurd none
+made_so Trails style inputs out row (held.Log log) tracks drawing end answer old new proves (inr (least, more, none)) h is whole = absurd none
 
-unwired_so : (evidence : Evidence) (inputs : Inputs) (out : List ℕ) (row : List Column) (certificate : Certificate) (tracks : TrackCertificate) (ring : Ring) (end : End) (answer : Status) (old new : View) → ProvesTracks inputs tracks → IsWiredSpent inputs tracks → IsFoundBy evidence inputs row certificate → IsRinged inputs row ring → IsUnwiredEnd inputs out certificate tracks ring end → TellsWhole end answer old new → IsUnwiredCell evidence inputs out old new
-unwired_so Log inputs out row (held.Log log) tracks ring end answer old new proves spent found ringed is whole = record {
+unwired_so : (evidence : Evidence) (wiring : Wiring) (inputs : Inputs) (out : List ℕ) (row : List Column) (certificate : Certificate) (tracks : TrackCertificate) (ring : Ring) (end : End) (answer : Status) (old new : View) → ProvesTracks wiring inputs tracks → IsUnwiredOpen wiring inputs tracks → IsFoundBy evidence inputs row certificate → IsRinged wiring inputs row ring → IsUnwiredEnd wiring inputs out certificate tracks ring end → TellsWhole end answer old new → IsUnwiredCell evidence wiring inputs out old new
+unwired_so Log wiring inputs out row (held.Log log) tracks ring end answer old new proves open' found ringed is whole = record {
   row = row;
   certificate = log;
   tracks = tracks;
   ring = ring;
   first = found.first;
   certified = found.certified;
-  fewest = fewest_certified inputs tracks proves;
-  spent = spent;
+  fewest = fewest_certified wiring inputs tracks proves;
+  unwired = open';
   ringed = ringed;
-  files = none_drawn (Low Log tracks) inputs.cell out (evidence_text Log inputs.cell.name log) end.files old.made new.made is.files whole.1;
+  files = none_drawn (Low Log wiring tracks) inputs.cell out (evidence_text Log inputs.cell.name log) end.files old.made new.made is.files whole.1;
   says = said_so _ end.report old.said new.said is.report whole.2;
 }
-unwired_so Trails inputs out row (held.Trails trails) tracks ring end answer old new proves spent found ringed is whole = record {
+unwired_so Trails wiring inputs out row (held.Trails trails) tracks ring end answer old new proves open' found ringed is whole = record {
   row = row;
   certificate = trails;
   tracks = tracks;
   ring = ring;
   first = found.first;
   certified = found.certified;
-  fewest = fewest_certified inputs tracks proves;
-  spent = spent;
+  fewest = fewest_certified wiring inputs tracks proves;
+  unwired = open';
   ringed = ringed;
-  files = none_drawn (Low Trails tracks) inputs.cell out (evidence_text Trails inputs.cell.name trails) end.files old.made new.made is.files whole.1;
+  files = none_drawn (Low Trails wiring tracks) inputs.cell out (evidence_text Trails inputs.cell.name trails) end.files old.made new.made is.files whole.1;
   says = said_so _ end.report old.said new.said is.report whole.2;
 }
-unwired_so Log inputs out row (held.Trails trails) tracks ring end answer old new proves spent found ringed is whole = absurd found
-unwired_so Trails inputs out row (held.Log log) tracks ring end answer old new proves spent found ringed is whole = absurd found
+unwired_so Log wiring inputs out row (held.Trails trails) tracks ring end answer old new proves open' found ringed is whole = absurd found
+unwired_so Trails wiring inputs out row (held.Log log) tracks ring end answer old new proves open' found ringed is whole = absurd found
 
-low_leaves_so : (evidence : Evidence) (taps : Taps) (inputs : Inputs) (out : List ℕ) (end : End) (answer : Status) (old new : View) → MakesLowTo evidence taps inputs out end → TellsWhole end answer old new → LowLeaves evidence taps inputs out old new answer
-low_leaves_so evidence taps inputs out end answer old new (low.Made row certificate tracks drawing, (proves, certified, there, h), is) whole =
-    made_so evidence taps inputs out row certificate tracks drawing end answer old new proves certified h is whole
-low_leaves_so evidence taps inputs out end answer old new (low.Unwired row certificate tracks ring, (proves, spent, found, ringed), is) whole =
-    by_end (LowLeaves evidence taps inputs out old new) status.Unfinished answer end old new is.status whole (inr (unwired_so evidence inputs out row certificate tracks ring end answer old new proves spent found ringed is whole))
-low_leaves_so evidence taps inputs out end answer old new (low.Open proved certificate, h, is) whole =
-    by_end (LowLeaves evidence taps inputs out old new) status.Unfinished answer end old new is.status whole (inl (inl (open_so evidence inputs out proved certificate end answer old new h is whole)))
-low_leaves_so evidence taps inputs out end answer old new (low.Crowded gate, h, is) whole =
-    by_end (LowLeaves evidence taps inputs out old new) status.Unfinished answer end old new is.status whole (inl (inr (crowded_so evidence inputs gate end answer old new h is whole)))
+low_leaves_so : (evidence : Evidence) (style : Style) (inputs : Inputs) (out : List ℕ) (end : End) (answer : Status) (old new : View) → MakesLowTo evidence style inputs out end → TellsWhole end answer old new → LowLeaves evidence style inputs out old new answer
+low_leaves_so evidence style inputs out end answer old new (low.Made row certificate tracks drawing, (proves, certified, there, h), is) whole =
+    made_so evidence style inputs out row certificate tracks drawing end answer old new proves certified h is whole
+low_leaves_so evidence style inputs out end answer old new (low.Unwired row certificate tracks ring, (proves, open', found, ringed), is) whole =
+    by_end (LowLeaves evidence style inputs out old new) status.Unfinished answer end old new is.status whole (inr (unwired_so evidence style.wiring inputs out row certificate tracks ring end answer old new proves open' found ringed is whole))
+low_leaves_so evidence style inputs out end answer old new (low.Open proved certificate, h, is) whole =
+    by_end (LowLeaves evidence style inputs out old new) status.Unfinished answer end old new is.status whole (inl (inl (open_so evidence inputs out proved certificate end answer old new h is whole)))
+low_leaves_so evidence style inputs out end answer old new (low.Crowded gate, h, is) whole =
+    by_end (LowLeaves evidence style inputs out old new) status.Unfinished answer end old new is.status whole (inl (inr (crowded_so evidence inputs gate end answer old new h is whole)))
 
-pub low_leaves : (settled : Status) (a c : View) (form : Option Form) (answer : Status) (given : Option Files) → is_among work_statuses settled ≡ true → IfSome given (IsAnswered form a c answer) → IfSome given (λ files. WhereEnds MakingLow files form answer settled (λ m. IsAskedLow form m × LowLeaves m.evidence m.taps m.inputs m.stem a c settled))
+pub low_leaves : (settled : Status) (a c : View) (form : Option Form) (answer : Status) (given : Option Files) → is_among work_statuses settled ≡ true → IfSome given (IsAnswered form a c answer) → IfSome given (λ files. WhereEnds MakingLow files form answer settled (λ m. IsAskedLow form m × LowLeaves m.evidence m.style m.inputs m.stem a c settled))
 low_leaves settled a c form answer given own told =
-    asked_told form answer settled (λ m. LowLeaves m.evidence m.taps m.inputs m.stem a c settled) given
-    (ends_told MakingLow (λ m. LowLeaves m.evidence m.taps m.inputs m.stem a c settled) form settled answer a c given own (λ m end works is whole. subst (LowLeaves m.evidence m.taps m.inputs m.stem a c) is (low_leaves_so m.evidence m.taps m.inputs m.stem end answer a c works whole)) told)
+    asked_told form answer settled (λ m. LowLeaves m.evidence m.style m.inputs m.stem a c settled) given
+    (ends_told MakingLow (λ m. LowLeaves m.evidence m.style m.inputs m.stem a c settled) form settled answer a c given own (λ m end works is whole. subst (LowLeaves m.evidence m.style m.inputs m.stem a c) is (low_leaves_so m.evidence m.style m.inputs m.stem end answer a c works whole)) told)

@@ -139,12 +139,12 @@ files_made (Search evidence) cell out text bytes summary files old new is made =
     both_all ((evidence_name evidence out, text) ∷ cell_files out bytes summary) (HasCell (evidence_name evidence out) out text bytes summary) files old new (cell_all (evidence_name evidence out) out text bytes summary) (distinct_three evidence out) is made
 files_made (File evidence given) cell out text bytes summary files old new is made =
     both_all (cell_files out bytes summary) (HasDrawing out bytes summary) files old new (drawing_made out bytes summary) (distinct_two out) is made
-files_made (Low evidence tracks) cell out text bytes summary files old new is made =
-    both_all (told_files (Low evidence tracks) cell out text ++ cell_files out bytes summary) (HasFiles (Low evidence tracks) cell out text bytes summary) files old new (λ x y h. h) (distinct_drawn (Low evidence tracks) cell out text bytes summary) is made
+files_made (Low evidence wiring tracks) cell out text bytes summary files old new is made =
+    both_all (told_files (Low evidence wiring tracks) cell out text ++ cell_files out bytes summary) (HasFiles (Low evidence wiring tracks) cell out text bytes summary) files old new (λ x y h. h) (distinct_drawn (Low evidence wiring tracks) cell out text bytes summary) is made
 
 pub none_drawn : (origin : Origin) (cell : Subckt) (out text : List ℕ) (files : List Output) (old new : Option Files) → map named files ≡ told_files origin cell out text → Both (MakesAll files) old new → Both (HasNoDrawing origin cell out text) old new
 none_drawn (Search evidence) cell out text files old new is made = evidence_made (evidence_name evidence out) text files old new is made
 none_drawn (File evidence given) cell out text files old new is made =
     both_so (MakesAll files) (λ (x y : Files). y ≡ x) (λ x y h. subst (λ (fs : List Output). MakesAll fs x y) (none_are files is) h) old new made
-none_drawn (Low evidence tracks) cell out text files old new is made =
-    both_all (told_files (Low evidence tracks) cell out text) (HasNoDrawing (Low evidence tracks) cell out text) files old new (λ x y h. h) (distinct_alone (Low evidence tracks) cell out text) is made
+none_drawn (Low evidence wiring tracks) cell out text files old new is made =
+    both_all (told_files (Low evidence wiring tracks) cell out text) (HasNoDrawing (Low evidence wiring tracks) cell out text) files old new (λ x y h. h) (distinct_alone (Low evidence wiring tracks) cell out text) is made

@@ -12,7 +12,6 @@ use Rattle.call_words.specs.declared.evidence.Evidence.TheVariants.{Log}
 use Rattle.call_work.specs.Commands.{Material, Rowing}
 use Rattle.call_work.specs.Ends.{EndsTo, IsOfOutside, desk_statuses, is_among}
 use Rattle.cell_inputs.specs.Inputs.{Inputs, inputs_of}
-use Rattle.cell_inputs.specs.declared.style.Taps.TheVariants.{Without}
 use Rattle.cell_inputs.specs.Style.{plain_style}
 use Rattle.cell_inputs.specs.declared.style.LeastRow.{LeastRow}
 use Rattle.cell_inputs.specs.declared.style.LeastRow.TheVariants.{First, Lowest}
@@ -68,7 +67,7 @@ never_stops First inputs (Tall row log routing) (much, can) stops = (can row sto
 never_stops First inputs (Unfinished proved log) (much, can) stops = spends_less inputs log proved much stops
 never_stops First inputs (Unwired row log tracks ring) can stops = stops
 never_stops Lowest inputs (Cyclic row log ring) (much, can) (tracks, h) = no_ring plain_style.wiring (placement_of row) inputs.cell.pins ring (can row h.found.first).acyclic (ring_is plain_style.wiring (placement_of row) inputs.cell.pins ring h.told)
-never_stops Lowest inputs (Tall row log routing) (much, can) h = never_tall Without inputs row h.tracks routing can (drawn_first Without inputs h.there can) h.routed h.tall
+never_stops Lowest inputs (Tall row log routing) (much, can) h = never_tall plain_style inputs row h.tracks routing can (drawn_first plain_style inputs h.there can) h.routed h.tall
 never_stops Lowest inputs (Unfinished proved log) (much, can) spent = spends_less inputs log proved much spent
 never_stops Lowest inputs (Unwired row log tracks ring) (much, can) h = no_ring plain_style.wiring (placement_of row) inputs.cell.pins ring (can row h.found.first).acyclic (ring_is plain_style.wiring (placement_of row) inputs.cell.pins ring h.told)
 

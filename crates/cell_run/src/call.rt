@@ -41,13 +41,13 @@ use std::alloc::Global;
 /// `plan TECH SPICE CELL` finds the first least row of a cell: TECH is a technology file or `-` for the plain
 /// technology, SPICE a file, and CELL the name of one of its subcircuits. `make TECH SPICE CELL OUT` draws that row: it
 /// makes the log `OUT.clog`, the GDSII library `OUT.gds` and then the abstract `OUT.lef`. With `--dogleg` after OUT,
-/// trunks may change their tracks at node lines of their nets; with `--taps` as the last word the library has taps of
-/// the well and of the substrate, on the rails at the first and at the last line.
-/// With `--low` after OUT or `--taps`, `make` draws of all rows that can be wired with the fewest gaps the first on the
+/// trunks may change their tracks at node lines of their nets; with `--taps` after these the library has taps of the
+/// well and of the substrate, on the rails at the first and at the last line.
+/// With `--low` after these words, `make` draws of all rows that can be wired with the fewest gaps the first on the
 /// fewest tracks, with the first of its routings on these. It makes the certificate of the tracks, `OUT.ctrack`, after
 /// the log. Where the budget is spent before that row is found, it draws the first that can be wired with these gaps.
 /// `check TECH SPICE CELL LOG` reports whether the file LOG is the text of a log that certifies a row of that cell.
-/// With `--low` after the file's name it reports the gaps and the tracks of a certificate of tracks.
+/// With `--low` after the file's name it reports the gaps and the tracks of a certificate of tracks of either wiring.
 /// `extract TECH GDS CELL` reports the netlist of a cell of the GDSII file GDS, or the rules that it breaks. With
 /// `--taps` after CELL the rules are those of cells with taps, and the net of each device's body is reported.
 /// `bench NUMBER` makes that many generated cells in memory, 1 to 200, and reports what came out.
@@ -145,8 +145,8 @@ pub fn run<D: Desk>(alloc: Global, words: &[String], desk: &mut D) -> Status
         FromFile files (asked words.now) IsUnaccepted → IsOrShort status.Rejected result) }
 
     // What `make` with `--low` leaves: the drawing of the first row on the fewest tracks, with both certificates; or a
-    // cycle, where no row can be wired; or the height that the row needs; or what a search proves that spent its
-    // budget. It draws each cell that `make` draws where the budget is enough, or memory ran out.
+    // cycle, where no row can be wired; or the height that the row needs; or what a search proves that is left
+    // open. It draws each cell that `make` draws where the budget is enough, or memory ran out.
     ensures drawn_low { IfLow (D.view desk.old) (D.view desk.new) (asked words.now) result status.Done IsMadeLow }
     ensures cyclic_low { IfLow (D.view desk.old) (D.view desk.new) (asked words.now) result status.Cycle IsCyclicLow }
     ensures tall_low { IfLow (D.view desk.old) (D.view desk.new) (asked words.now) result status.TooTall IsTallLow }
