@@ -103,7 +103,8 @@ def lines_of(crate, module, name):
         shown = signature(text, found.start(2))
         return [item_line("law" if re.fullmatch(r"\w+(<.*>)?\(\)", shown) else kind, shown, told)]
     shown = re.match(r"\w+(?: = [^;]*)?", text[found.start(2):]).group() if kind == "type" else name
-    return [item_line(kind, shown, told)] + list(methods(crate, name, kind, text, found.end()))
+    listed = re.fullmatch(r"\w+ = List<(.+)>", shown)
+    return [item_line(kind, shown, told or listed and f"A list of `{listed.group(1)}`.")] + list(methods(crate, name, kind, text, found.end()))
 
 
 def place_of(crate, name):
