@@ -8,6 +8,7 @@ pub mod Filled
 pub mod Finds
 pub mod Grown
 pub mod Lines
+pub mod Choices
 pub mod StateListed
 pub mod New
 pub mod Orders

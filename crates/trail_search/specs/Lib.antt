@@ -11,4 +11,5 @@ pub mod Units
 pub mod Visit
 -- What inner contracts and proofs alone cite.
 pub mod Line
+pub mod Lists
 pub mod Order

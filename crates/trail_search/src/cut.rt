@@ -1,9 +1,11 @@
 ghost use Rattle.std.specs.Prelude.{◌≡◌, ◌≤◌, ◌<◌, ◌+◌, ◌||◌, IfErr, IfOk, IsTrue, is_some};
 ghost use Rattle.row_state.specs.Completion.{Need};
 ghost use Rattle.row_state.specs.Start.{IsState};
+ghost use Rattle.trail_search.specs.Lists.{AreRight};
 ghost use Rattle.trail_search.specs.Visit.{Halts, IfSpent, TriesOnce};
 
 use crate::behind::behind;
+use crate::lists::ChoiceLists;
 use crate::proof::RefuteStop;
 use crate::refute::is_refuted;
 use cell_num::{Halt, NoMemory, Row, are_fingers};
@@ -32,9 +34,12 @@ fn trails_refute(
     state: &State,
     kinds: &Kinds,
     allowed: u32,
+    lists: &mut ChoiceLists,
     left: &mut u64,
 ) -> Result<bool, Halt>
-    requires { IsState kinds.now state.now }
+    requires state { IsState kinds.now state.now }
+    requires right { AreRight lists.old }
+    ensures right { AreRight lists.new }
     ensures refuted { IfOk result (λ yes. IsTrue yes → Need kinds.now state.now (allowed + 1)) }
     ensures left { left.new ≤ left.old }
     ensures halted { IfErr result (Halts left.new) }
@@ -50,7 +55,7 @@ fn trails_refute(
     if !are_fingers(&fingers) {
         return Ok(false);
     }
-    match is_refuted(alloc, &fingers, allowed, left) {
+    match is_refuted(alloc, &fingers, allowed, lists, left) {
         Ok(refuted) => Ok(refuted),
         Err(RefuteStop::Choices { .. }) => Ok(false),
         Err(RefuteStop::Spent) => Err(Halt::Spent),
@@ -67,9 +72,12 @@ pub(crate) fn exceeds_allowed(
     state: &State,
     kinds: &Kinds,
     allowed: u32,
+    lists: &mut ChoiceLists,
     left: &mut u64,
 ) -> Result<bool, Halt>
-    requires { IsState kinds.now state.now }
+    requires state { IsState kinds.now state.now }
+    requires right { AreRight lists.old }
+    ensures right { AreRight lists.new }
     ensures exceeds { IfOk result (λ yes. IsTrue yes → Need kinds.now state.now (allowed + 1)) }
     ensures left { left.new ≤ left.old }
     ensures halted { IfErr result (Halts left.new) }
@@ -83,5 +91,5 @@ pub(crate) fn exceeds_allowed(
     if !tries {
         return Ok(false);
     }
-    trails_refute(alloc, state, kinds, allowed, left)
+    trails_refute(alloc, state, kinds, allowed, lists, left)
 }

@@ -3,9 +3,11 @@ ghost use Rattle.row_state.specs.Candidates.{AreCandidates, IsNumbered};
 ghost use Rattle.row_state.specs.Completion.{Need};
 ghost use Rattle.row_state.specs.Start.{columns_left};
 ghost use Rattle.lemma_check.specs.Known.{best_known};
+ghost use Rattle.trail_search.specs.Lists.{AreRight};
 ghost use Rattle.trail_search.specs.Visit.{AreTrue, Halts, IfSpent, IsFirstOf, IsSpent};
 
 use crate::cut::exceeds_allowed;
+use crate::lists::ChoiceLists;
 use cell_num::{Halt, MOST_COLUMNS};
 use lemma_check::Known;
 use row_state::{Candidate, Kinds, Numbered, Steps, has_fingers};
@@ -27,6 +29,7 @@ pub(crate) struct Task<'a> {
 pub(crate) fn visit(
     task: &Task,
     known: &mut Known,
+    lists: &mut ChoiceLists,
     left: &mut u64,
     at: &Numbered,
     allowed: u32,
@@ -36,7 +39,9 @@ pub(crate) fn visit(
     requires few { allowed ≤ MOST_COLUMNS }
     requires known { AreTrue task.now.kinds.now known.old }
     requires unknown { best_known known.old task.now.kinds.now at.now.state ≤ allowed }
+    requires right { AreRight lists.old }
     ensures known { AreTrue task.now.kinds.now known.new }
+    ensures right { AreRight lists.new }
     ensures left { left.new ≤ left.old }
     ensures failed { IfOk result (λ r. IfNone r (Need task.now.kinds.now at.now.state (allowed + 1))) }
     ensures found { IfOk result (λ r. IfSome r (IsFirstOf task.now.kinds.now at.now.state allowed)) }
@@ -56,7 +61,9 @@ pub(crate) fn visit(
     if !has_fingers(&at.state) {
         return Ok(Some(Steps::new(task.alloc)));
     }
-    if exceeds_allowed(task.alloc, task.tries, &at.state, task.kinds, allowed, left)? {
+    if exceeds_allowed(
+        task.alloc, task.tries, &at.state, task.kinds, allowed, lists, left,
+    )? {
         known.note_at(at.code, allowed + 1)?;
         return Ok(None);
     }
@@ -72,7 +79,7 @@ pub(crate) fn visit(
             continue;
         }
         let behind = at.behind(task.alloc, task.kinds, next)?;
-        let tried = match visit(task, known, left, &behind, allowed - cost) {
+        let tried = match visit(task, known, lists, left, &behind, allowed - cost) {
             Ok(tried) => tried,
             Err(halt) => return Err(halt),
         };

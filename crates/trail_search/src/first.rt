@@ -7,6 +7,7 @@ ghost use Rattle.trail_search.specs.Searched.{AreSearched};
 ghost use Rattle.trail_search.specs.Visit.{Halts, IfSpent};
 
 use crate::descent::{Task, visit};
+use crate::lists::ChoiceLists;
 use bound_log::Best;
 use cell_num::{Halt, MOST_COLUMNS, NoMemory};
 use lemma_check::Known;
@@ -63,8 +64,10 @@ fn row_from(
         tries,
     };
     let mut known = Known::new(alloc);
-    let visited = visit(&task, &mut known, left, first, gaps);
+    let mut lists = ChoiceLists::new(alloc);
+    let visited = visit(&task, &mut known, &mut lists, left, first, gaps);
     drop(known);
+    drop(lists);
     match visited {
         Ok(Some(steps)) => Ok(Some(listed(alloc, kinds, gaps, steps.as_slice())?)),
         Ok(None) => Ok(None),

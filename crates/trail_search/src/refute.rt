@@ -7,19 +7,20 @@ ghost use Rattle.trail_state.specs.Levels.{AreLevels, IsOrder};
 ghost use Rattle.open_gates.specs.Leveled.{levels_of};
 ghost use Rattle.open_gates.specs.Listed.{HasFewNodes};
 ghost use Rattle.trail_check.specs.Gates.{first_with_many};
+ghost use Rattle.trail_search.specs.Lists.{AreRight};
 ghost use Rattle.trail_search.specs.Proof.{AttemptsOnce, AttemptsStopped, EndsRefuting, HasMost};
 ghost use Rattle.trail_search.specs.Units.{listed_units};
 
 use crate::gate_order::order;
 use crate::kept::Kept;
 use crate::limits::{MOST_LIMIT, most_ends};
+use crate::lists::ChoiceLists;
 use crate::proof::RefuteStop;
+use crate::relisted::filled_levels;
 use crate::units::{CROWDED_UNITS, listed_units, take};
 use crate::visit::visit;
 use cell_num::{Fingers, Halt, List, NetNo};
-use open_gates::filled_levels_within;
 use std::alloc::Global;
-use trail_check::MOST_CHOICES;
 use trail_state::{Level, LevelStop, TrailState};
 
 // The levels of the order, where no gate has too many ways and the units left are enough to list the choices of all.
@@ -28,10 +29,13 @@ fn listed(
     alloc: Global,
     fingers: &Fingers,
     order: &[NetNo],
+    lists: &mut ChoiceLists,
     left: &mut u64,
 ) -> Result<List<Level>, RefuteStop>
     requires fingers { AreFingers fingers.now }
     requires order { IsOrder fingers.now order.now }
+    requires right { AreRight lists.old }
+    ensures right { AreRight lists.new }
     ensures are { IfOk result (AreLevels fingers.now order.now) }
     ensures is { IfOk result (λ levels. levels ≡ levels_of fingers.now order.now) }
     ensures nodes { IfOk result (All HasFewNodes) }
@@ -41,7 +45,7 @@ fn listed(
     ensures halted { IfErr result (EndsRefuting fingers.now left.new) }
     ensures attempt { IfErr result (λ why. (limit : ℕ) → AttemptsStopped fingers.now limit left.old left.new why) }
 {
-    match filled_levels_within(alloc, fingers, order, MOST_CHOICES) {
+    match filled_levels(alloc, fingers, order, lists) {
         Ok(levels) => {
             if !take(left, listed_units(&levels)) {
                 return Err(RefuteStop::Spent);
@@ -66,9 +70,12 @@ pub(crate) fn is_refuted(
     alloc: Global,
     fingers: &Fingers,
     limit: u32,
+    lists: &mut ChoiceLists,
     left: &mut u64,
 ) -> Result<bool, RefuteStop>
     requires fingers { AreFingers fingers.now }
+    requires right { AreRight lists.old }
+    ensures right { AreRight lists.new }
     ensures refuted { IfOk result (λ yes. IsTrue yes → (row : Sequence Column) → IsArrangement row fingers.now →
         limit < gaps_of row) }
     ensures most { IfOk result (λ yes. yes ≡ false → limit ≤ 30 → HasMost fingers.now limit) }
@@ -81,7 +88,7 @@ pub(crate) fn is_refuted(
         return Ok(false);
     }
     let order = order(alloc, fingers)?;
-    let levels = match listed(alloc, fingers, order.as_slice(), left) {
+    let levels = match listed(alloc, fingers, order.as_slice(), lists, left) {
         Ok(levels) => levels,
         Err(why) => return Err(why),
     };

@@ -22,7 +22,7 @@ returns-then-branch-clause-known t c = true_more c.args.task.now.kinds.now c.arg
 
 pub loop-next-preserved-then-not-allows : goal.loop-next-preserved-then-not-allows
 unfolding blank
-loop-next-preserved-then-not-allows t c = (c.loop-next.invariant.0, c.loop-next.invariant.1, none_not c.args.task.now.kinds.now c.args.at.now.state c.args.allowed c.args.task.now.candidates.now c.loop-next.next-index blank c.allows.result c.loop-next.invariant.2 c.loop-next-test.true c.allows.ensures c.if-not-allows.true, c.loop-next.invariant.3)
+loop-next-preserved-then-not-allows t c = (c.loop-next.invariant.0, c.loop-next.invariant.1, none_not c.args.task.now.kinds.now c.args.at.now.state c.args.allowed c.args.task.now.candidates.now c.loop-next.next-index blank c.allows.result c.loop-next.invariant.2 c.loop-next-test.true c.allows.ensures c.if-not-allows.true, c.loop-next.invariant.3, c.loop-next.invariant.4)
 
 pub loop-next-preserved-then-allowed-cost : goal.loop-next-preserved-then-allowed-cost
 unfolding blank
@@ -34,6 +34,7 @@ loop-next-preserved-then-allowed-cost t c = (
       (c.cost-cost.ensures c.args.task.now.kinds.now (c.requires.candidates.each c.loop-next.next-index blank
       c.loop-next-test.true)) c.if-allowed-cost.true,
   c.loop-next.invariant.3,
+  c.loop-next.invariant.4,
 )
 
 pub loop-next-preserved-then-best_at-allowed : goal.loop-next-preserved-then-best_at-allowed
@@ -48,6 +49,7 @@ loop-next-preserved-then-best_at-allowed t c = (
       (c.requires.candidates.each c.loop-next.next-index blank c.loop-next-test.true)) c.code_behind.ensures
       c.best_at.ensures c.if-best_at-allowed.true,
   c.loop-next.invariant.3,
+  c.loop-next.invariant.4,
 )
 
 pub visit-requires : goal.visit-requires
@@ -94,6 +96,7 @@ loop-next-preserved t c =
           (some_left c.allows.ensures c.if-not-allows.false) c.in_ok-behind.ensures.state
           (c.cost-cost.ensures c.args.task.now.kinds.now (c.requires.candidates.each c.loop-next.next-index blank
           c.loop-next-test.true)) (omega (arith, c.if-allowed-cost.false)) c.loop-next.invariant.3 went,
+      c.in-Ok.ensures.right,
     )
 
 pub returns-clause-known : goal.returns-clause-known
@@ -140,6 +143,7 @@ loop-next-init t c = (
   spent_one c.args.task.now.kinds.now (columns_left c.args.task.now.kinds.now c.args.at.now.state) c.args.at.now.state
       (c.args.allowed + 1) c.args.known.now c.args.left.now (c.args.left.now - 1) c.exceeds_allowed.new.left
       (omega (arith, c.if-left-eq0.false)) c.in_ok-exceeds_allowed.ensures.tries,
+  c.in_ok-exceeds_allowed.ensures.right,
 )
 
 pub returns-in-Err-clause-spent : goal.returns-in-Err-clause-spent
