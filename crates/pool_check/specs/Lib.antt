@@ -2,5 +2,6 @@
 pub mod Stepping
 pub mod Accepted
 pub mod Refusal
+pub mod Along
 -- What inner contracts cite.
 pub mod Same
