@@ -1,3 +1,4 @@
 -- What contracts of public calls cite.
 pub mod Listed
 pub mod Lines
+pub mod After

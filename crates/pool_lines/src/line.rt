@@ -1,10 +1,18 @@
-ghost use Rattle.std.specs.Prelude.{◌≡◌, ◌==◌, ◌&&◌, IfOk, map, not};
+ghost use Rattle.std.specs.Prelude.{◌≡◌, ◌==◌, ◌&&◌, IfOk, map, not, List as Sequence};
 ghost use Rattle.std.specs.List.{filter, list_any};
+ghost use Rattle.cell_num.specs.declared.finger.Fingers.{Fingers as FingersOf};
+ghost use Rattle.cell_num.specs.declared.net.NetNo.{NetNo as NetNoOf};
+ghost use Rattle.cell_num.specs.Fingers.{AreFingers};
+ghost use Rattle.open_gates.specs.declared.gates.OpenGates.{OpenGates as OpenGatesOf};
+ghost use Rattle.trail_state.specs.Levels.{IsOrder};
 ghost use Rattle.trail_state.specs.declared.edge.Node.{Node as NodeOf};
 ghost use Rattle.trail_state.specs.declared.state.Place.{Place as PlaceAt};
+ghost use Rattle.trail_pools.specs.Leveled.{levels_of, pools_of};
 ghost use Rattle.trail_pools.specs.declared.state.Balance.{Balance as BalanceOf};
 ghost use Rattle.pool_lines.specs.Lines.{balance_at, class_at, classes_of, is_even, is_name, is_odd_node};
 ghost use Rattle.pool_lines.specs.Lines.{is_of, line_of, odd_nodes, pair_of, place_of, surplus_of};
+ghost use Rattle.pool_lines.specs.Listed.{state_listed};
+ghost use Rattle.pool_lines.specs.After.{IsAfter};
 
 use cell_num::{List, NetNo, NoMemory};
 use pool_log::{ClassList, ListedPlace, PlaceClass, PoolBalance, PoolLine, Surplus};
@@ -155,8 +163,7 @@ fn balances_of(alloc: Global, balances: &[Balance]) -> Result<Vec<PoolBalance>, 
         .collect(alloc)
 }
 
-/// The line of a lemma on the state after the first `done` gates of an order.
-pub fn line_of(
+fn line(
     alloc: Global,
     pools: &Pools,
     bound: u32,
@@ -174,4 +181,22 @@ pub fn line_of(
         balances: List::from_vec(balances),
         classes: classes_of(alloc, pools, state)?,
     })
+}
+
+/// The line of a lemma on the state after the first `done` gates of an order. It lists this state.
+pub fn line_of(
+    alloc: Global,
+    pools: &Pools,
+    bound: u32,
+    done: u32,
+    state: &PoolState,
+) -> Result<PoolLine, NoMemory>
+    ensures is { IfOk result (λ line. line ≡ line_of pools.now bound done state.now) }
+    ensures back { IfOk result (λ line. (f : FingersOf) (opened : OpenGatesOf) (order : Sequence NetNoOf)
+        → AreFingers f → IsOrder f order → pools.now ≡ pools_of f opened
+        → IsAfter pools.now (levels_of f opened order) done state.now
+        → state_listed pools.now (levels_of f opened order) line ≡ state.now) }
+{
+    let line = line(alloc, pools, bound, done, state)?;
+    Ok(line)
 }

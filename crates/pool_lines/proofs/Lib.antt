@@ -1,0 +1,9 @@
+mod States
+mod Keyed
+mod Odd
+mod Back
+mod Settled
+mod OddPlaces
+mod Parity
+mod Next
+pub mod Along
