@@ -9,6 +9,7 @@ use Rattle.cell_num.specs.declared.finger.Fingers.{Fingers}
 use Rattle.cell_num.specs.declared.net.NetNo.{NetNo}
 use Rattle.row_trails.proofs.Sets.{size_le}
 use Rattle.trail_state.specs.declared.edge.FingerEnds.{FingerEnds}
+use Rattle.trail_state.specs.Levels.{IsOrder}
 use Rattle.open_gates.specs.declared.gates.OpenGates.{OpenGates}
 use Rattle.trail_halves.specs.Halves.{free}
 use Rattle.trail_halves.specs.declared.choice.OpenChoice.{OpenChoice}
@@ -19,6 +20,7 @@ use Rattle.trail_pools.specs.declared.state.PoolState.{PoolState}
 use Rattle.trail_pools.specs.Leveled.{HasFew, has_pool, levels_of, pools_of}
 use Rattle.trail_pools.specs.State.{balance_after, balance_in, balanced, is_small, odd_closing, open_pools, start}
 use Rattle.trail_pools.proofs.Balances.{few_high, few_low, free_parts}
+use Rattle.pool_check.specs.Accepted.{IsAccepted}
 use Rattle.pool_check.specs.Stepping.{AreFew, pool_steps, steps_of}
 use Rattle.pool_check.proofs.Told.{all_few}
 use Rattle.end_search.specs.declared.proof.EndProof.{EndProof}
@@ -136,4 +138,13 @@ module _ (f : Fingers) (opened : OpenGates) (order : List NetNo) (levels : List 
       subst (λ (ps : Pools). IsEndProof (pool_steps ps) (levels_of f opened order) start gaps budget proof) pools_are
       (subst (λ (ls : List PoolLevel). IsEndProof (pool_steps pools) ls start gaps budget proof) levels_are it)
 
-pub ruleset search_rules = (all_few, few_levels, states_fit, proves)
+  -- along an order of gates the lemmas are accepted
+  pub accepts : (pools : Pools) (gaps budget : ℕ) (proof : EndProof PoolState) → pools ≡ pools_of f opened
+      → IsEndProof (pool_steps pools) levels start gaps budget proof → IsOrder f order
+      → IsAccepted f opened order proof.lemmas proof.ends
+  accepts pools gaps budget proof pools_are it gates_are =
+      let found : IsEndProof (steps_of f opened) (levels_of f opened order) start gaps budget proof =
+      proves pools gaps budget proof pools_are it in
+      record { gates = gates_are; justified = found.justified; proved = found.ends_are }
+
+pub ruleset search_rules = (all_few, few_levels, states_fit, proves, accepts)

@@ -2,6 +2,8 @@ ghost use Rattle.std.specs.Prelude.{◌≤◌, IfOk, length};
 ghost use Rattle.cell_num.specs.Fingers.{AreFingers};
 ghost use Rattle.trail_pools.specs.Leveled.{levels_of};
 ghost use Rattle.trail_pools.specs.State.{start};
+ghost use Rattle.trail_state.specs.Levels.{IsOrder};
+ghost use Rattle.pool_check.specs.Accepted.{IsAccepted};
 ghost use Rattle.pool_check.specs.Stepping.{steps_of};
 ghost use Rattle.end_search.specs.Proof.{IsEndProof};
 
@@ -27,8 +29,11 @@ pub fn search_pools(
 ) -> Result<EndProof<PoolState>, NoMemory>
     requires fingers { AreFingers fingers.now }
     requires few { length order.now ≤ 256 }
-    ensures { IfOk result (IsEndProof (steps_of fingers.now opened.now)
+    ensures proof { IfOk result (IsEndProof (steps_of fingers.now opened.now)
         (levels_of fingers.now opened.now order.now) start gaps budget) }
+    // where the order has each gate of a finger once, `check_pools` of pool_check accepts them with these ends
+    ensures accepted { IsOrder fingers.now order.now → IfOk result (λ proof.
+        IsAccepted fingers.now opened.now order.now proof.lemmas proof.ends) }
 {
     let pools = Pools::of(alloc, fingers, opened)?;
     let walk = PoolWalk {
