@@ -1,0 +1,45 @@
+-- Which certificates are accepted.
+use Rattle.std.specs.Prelude.{ℕ, List, map}
+use Rattle.cell_num.specs.declared.finger.Fingers.{Fingers}
+use Rattle.row_state.specs.declared.kind.Kinds.{Kinds}
+use Rattle.log_check.specs.Accepted.{BestPasses, WithKinds}
+use Rattle.open_gates.specs.declared.gates.OpenGates.{OpenGates}
+use Rattle.open_gates.specs.Open.{open_in}
+use Rattle.trail_check.specs.Justified.{gaps_proved}
+use Rattle.trail_pools.specs.declared.level.PoolLevel.{PoolLevel}
+use Rattle.trail_pools.specs.declared.pools.Pools.{Pools}
+use Rattle.trail_pools.specs.declared.state.PoolState.{PoolState}
+use Rattle.trail_pools.specs.Leveled.{levels_of, pools_of}
+use Rattle.end_lemmas.specs.declared.lemma.EndLemma.{EndLemma}
+use Rattle.order_log.specs.declared.certificate.OrderCertificate.{OrderCertificate}
+use Rattle.pool_log.specs.declared.lemma.PoolLine.{PoolLine}
+use Rattle.pool_lines.specs.Listed.{state_listed}
+use Rattle.pool_check.specs.Accepted.{IsAccepted as AreAccepted}
+
+-- the gates with half columns that are not filled
+abbrev pub open_of : Fingers → OrderCertificate PoolLine → OpenGates
+open_of f pools = open_in f pools.fill pools.order
+
+-- the lemma on the state that the line lists
+abbrev pub lemma_listed : Pools → List PoolLevel → PoolLine → EndLemma PoolState
+lemma_listed pools levels line =
+    record { bound = line.bound; done = line.done; state = state_listed pools levels line }
+
+abbrev pub lemmas_along : Pools → List PoolLevel → List PoolLine → List (EndLemma PoolState)
+lemmas_along pools levels lines = map (lemma_listed pools levels) lines
+
+-- those of the certificate, by the levels of its order
+abbrev pub lemmas_of : Fingers → OrderCertificate PoolLine → List (EndLemma PoolState)
+lemmas_of f pools =
+    lemmas_along (pools_of f (open_of f pools)) (levels_of f (open_of f pools) pools.order) pools.lemmas
+
+-- The lemmas are accepted along the order, where half columns of the gates that are not filled stay open. The row has no
+-- more gaps than they prove of every row. How many ways a gate has is not asked.
+pub record IsAccepted (f : Fingers) (pools : OrderCertificate PoolLine) (gaps : ℕ) : Type 0 where
+  pub ends : ℕ
+  pub lemmas : AreAccepted f (open_of f pools) pools.order (lemmas_of f pools) ends
+  pub passes : WithKinds f (λ (k : Kinds). BestPasses k f (gaps_proved ends) pools.best gaps)
+
+-- accepted with no number of gaps
+abbrev pub IsNeverAccepted : Fingers → OrderCertificate PoolLine → Type 0
+IsNeverAccepted f pools = (gaps : ℕ) → IsAccepted f pools gaps → ⊥
