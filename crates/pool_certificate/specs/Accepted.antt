@@ -33,7 +33,7 @@ abbrev pub lemmas_of : Fingers → OrderCertificate PoolLine → List (EndLemma 
 lemmas_of f pools =
     lemmas_along (pools_of f (open_of f pools)) (levels_of f (open_of f pools) pools.order) pools.lemmas
 
--- The lemmas are accepted along the order, where half columns of the gates that are not filled stay open. The row has no
+-- The lemmas are accepted along the order, where half columns of gates that are not filled stay open. The row has no
 -- more gaps than they prove of every row. How many ways a gate has is not asked.
 pub record IsAccepted (f : Fingers) (pools : OrderCertificate PoolLine) (gaps : ℕ) : Type 0 where
   pub ends : ℕ

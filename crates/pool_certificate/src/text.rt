@@ -64,9 +64,9 @@ fn gaps_of(alloc: Global, fingers: &Fingers, pools: &PoolCertificate) -> Result<
     }
 }
 
-/// Checks the text of a certificate for the cell of that name and the kinds of its fingers: it is read, and accepted for
-/// the fingers. Then no arrangement of the fingers has fewer gaps. Else the first cause to reject it. The name has 1 to
-/// 32 bytes and no line feed, and there are at most [`MOST_BYTES`] bytes.
+/// Checks the text of a certificate for the cell of that name and the kinds of its fingers: it is read, and accepted
+/// for the fingers. Then no arrangement of the fingers has fewer gaps. Else the first cause to reject it. The name has
+/// 1 to 32 bytes and no line feed, and there are at most [`MOST_BYTES`] bytes.
 pub fn check_text(
     alloc: Global,
     fingers: &Fingers,
