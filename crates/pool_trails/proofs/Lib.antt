@@ -1,0 +1,5 @@
+pub mod Lists
+pub mod Nets
+pub mod Certified
+pub mod Searched
+pub mod Rules

@@ -1,0 +1,50 @@
+-- Lemmas that are found along an order of the gates, and the certificate of their lines.
+use Rattle.std.specs.Prelude.{ℕ, ◌≡◌, ◌≤◌, List, None, codes, length, map}
+use Rattle.cell_num.specs.declared.finger.Fingers.{Fingers}
+use Rattle.cell_num.specs.declared.net.NetNo.{NetNo}
+use Rattle.row_state.specs.declared.kind.Kinds.{Kinds}
+use Rattle.open_gates.specs.declared.gates.OpenGates.{OpenGates}
+use Rattle.open_gates.specs.Open.{open_in}
+use Rattle.trail_search.specs.Filling.{filled_gates}
+use Rattle.trail_pools.specs.declared.pools.Pools.{Pools}
+use Rattle.trail_pools.specs.declared.state.PoolState.{PoolState}
+use Rattle.trail_pools.specs.Leveled.{levels_of, pools_of}
+use Rattle.trail_pools.specs.State.{start}
+use Rattle.end_lemmas.specs.declared.lemma.EndLemma.{EndLemma}
+use Rattle.end_search.specs.declared.proof.EndProof.{EndProof}
+use Rattle.end_search.specs.Proof.{IsEndProof}
+use Rattle.order_log.specs.declared.certificate.OrderCertificate.{OrderCertificate}
+use Rattle.pool_log.specs.declared.lemma.PoolLine.{PoolLine}
+use Rattle.pool_log.specs.Fits.{PoolsFit}
+use Rattle.pool_log.specs.Text.{pool_text}
+use Rattle.pool_lines.specs.Lines.{line_of}
+use Rattle.pool_check.specs.Stepping.{steps_of}
+use Rattle.pool_certificate.specs.Accepted.{lemmas_of}
+
+-- the gates that a search of trail_search leaves open
+abbrev pub opened_of : Fingers → List NetNo → OpenGates
+opened_of f order = open_in f (filled_gates f order) order
+
+-- A search along the order found it, with these gates left open: as many gaps as a row can have are asked for.
+abbrev pub IsFoundAlong : Fingers → List NetNo → ℕ → EndProof PoolState → Type 0
+IsFoundAlong f order budget proof =
+    IsEndProof (steps_of f (opened_of f order)) (levels_of f (opened_of f order) order) start 31 budget proof
+
+abbrev pub line_at : Pools → EndLemma PoolState → PoolLine
+line_at pools lemma = line_of pools lemma.bound lemma.done lemma.state
+
+-- the lines of the lemmas, and no row
+abbrev pub certificate_of : Fingers → List NetNo → List (EndLemma PoolState) → OrderCertificate PoolLine
+certificate_of f order lemmas = record {
+  fill = filled_gates f order;
+  order = order;
+  lemmas = map (line_at (pools_of f (opened_of f order))) lemmas;
+  best = None;
+}
+
+-- No text of at most 2 ^ 30 bytes has the lines of the lemmas; or these list other lemmas.
+abbrev pub AreUnlisted : Fingers → Kinds → List NetNo → List (EndLemma PoolState) → Type 0
+AreUnlisted f k order lemmas =
+    length (pool_text (codes "cell") (certificate_of f order lemmas)) ≤ 1073741824
+    → PoolsFit k (certificate_of f order lemmas)
+    → lemmas_of f (certificate_of f order lemmas) ≡ lemmas → ⊥

@@ -1,0 +1,88 @@
+-- What inner contracts cite.
+use Rattle.std.specs.Prelude.{ℕ, ◌≡◌, ◌≤◌, ◌==◌, Bool, List, Some, None, codes, length, map}
+use Rattle.cell_num.specs.declared.finger.Fingers.{Fingers}
+use Rattle.cell_num.specs.declared.net.NetNo.{NetNo}
+use Rattle.row_state.specs.declared.kind.Kinds.{Kinds}
+use Rattle.row_state.specs.Start.{AreKinds, AreSomeKinds}
+use Rattle.bound_log.specs.declared.log.Best.{Best}
+use Rattle.trail_state.specs.Levels.{IsOrder}
+use Rattle.trail_search.specs.Filling.{filled_gates}
+use Rattle.trail_pools.specs.declared.state.PoolState.{PoolState}
+use Rattle.end_lemmas.specs.declared.lemma.EndLemma.{EndLemma}
+use Rattle.end_search.specs.declared.proof.EndProof.{EndProof}
+use Rattle.order_log.specs.declared.certificate.OrderCertificate.{OrderCertificate}
+use Rattle.pool_log.specs.declared.lemma.PoolLine.{PoolLine}
+use Rattle.pool_log.specs.Fits.{PoolsFit}
+use Rattle.pool_log.specs.Text.{pool_text}
+use Rattle.pool_check.specs.declared.along.PoolOrder.{PoolOrder}
+use Rattle.pool_check.specs.declared.refusal.PoolRefusal.{PoolRefusal}
+use Rattle.pool_check.specs.declared.refusal.PoolRefusal.TheVariants as cause
+use Rattle.pool_check.specs.Accepted.{HasFewWays}
+use Rattle.pool_certificate.specs.Accepted.{lemmas_along, open_of}
+use Rattle.pool_trails.specs.declared.found.PoolStop.{PoolStop}
+use Rattle.pool_trails.specs.declared.found.PoolStop.TheVariants as stopped
+use Rattle.pool_trails.specs.declared.gates.PoolGates.{PoolGates}
+use Rattle.pool_trails.specs.Ended.{IsSearched}
+use Rattle.pool_trails.specs.Found.{line_at, opened_of}
+
+-- an order of the gates, those that are filled there, and those that are left open
+pub record ArePoolGates (f : Fingers) (gates : PoolGates) : Type 0 where
+  pub is : IsOrder f gates.order
+  pub filled : gates.fill ≡ filled_gates f gates.order
+  pub open_are : gates.opened ≡ opened_of f gates.order
+
+-- so it is of a stop that is no lack of memory
+abbrev pub Stops : Type 0 → PoolStop → Type 0
+Stops Says (stopped.Unfinished pools proved) = ⊥
+Stops Says stopped.Crowded = Says
+Stops Says stopped.NoMemory = Unit {0}
+
+-- the stop where no lemmas can be checked along an order
+abbrev pub stop_of : PoolRefusal → PoolStop
+stop_of cause.NoMemory = stopped.NoMemory
+stop_of _ = stopped.Crowded
+
+abbrev pub same_net : NetNo → NetNo → Bool
+same_net a b = a.0 == b.0
+
+-- the certificate of the lemmas' lines
+abbrev pub lined : PoolOrder → PoolGates → List (EndLemma PoolState) → OrderCertificate PoolLine
+lined along gates lemmas = record {
+  fill = gates.fill;
+  order = gates.order;
+  lemmas = map (line_at along.steps.pools) lemmas;
+  best = None;
+}
+
+-- it is of these gates, lists no row, and its lines list the lemmas
+pub record ListAlong (along : PoolOrder) (gates : PoolGates) (lemmas : List (EndLemma PoolState))
+    (pools : OrderCertificate PoolLine) : Type 0 where
+  pub rowless : pools.best ≡ None
+  pub fill : pools.fill ≡ gates.fill
+  pub order : pools.order ≡ gates.order
+  pub listed : lemmas_along along.steps.pools along.levels pools.lemmas ≡ lemmas
+
+abbrev pub AreUnlistedAlong : Kinds → PoolOrder → PoolGates → List (EndLemma PoolState) → Type 0
+AreUnlistedAlong k along gates lemmas =
+    length (pool_text (codes "cell") (lined along gates lemmas)) ≤ 1073741824
+    → PoolsFit k (lined along gates lemmas) → ListAlong along gates lemmas (lined along gates lemmas) → ⊥
+
+-- the certificate of what a search found: it lists no row
+pub record IsPoolProof (f : Fingers) (k : Kinds) (budget : ℕ) (proof : EndProof PoolState)
+    (pools : OrderCertificate PoolLine) : Type 0 where
+  pub of_fingers : AreKinds f k
+  pub some_kinds : AreSomeKinds k
+  pub order : IsOrder f pools.order
+  pub few_ways : HasFewWays f (open_of f pools) pools.order
+  pub searched : IsSearched f budget pools proof
+  pub rowless : pools.best ≡ None
+  pub fits : PoolsFit k pools
+
+-- the certificate with this row
+abbrev pub with_best : OrderCertificate PoolLine → Best → OrderCertificate PoolLine
+with_best pools best = record {
+  fill = pools.fill;
+  order = pools.order;
+  lemmas = pools.lemmas;
+  best = Some best;
+}

@@ -1,0 +1,5 @@
+-- Read this first: what contracts of public calls cite.
+pub mod Ended
+pub mod Found
+-- What inner contracts cite.
+pub mod Inner

@@ -1,0 +1,34 @@
+use cell_num::NoMemory;
+use pool_log::PoolCertificate;
+use row_model::Arrangement;
+
+/// The first least arrangement.
+#[derive(Debug, Drop)]
+pub struct PoolFound {
+    pub row: Arrangement,
+    /// The certificate that lists the row, and proves that no arrangement has fewer gaps.
+    pub pools: PoolCertificate,
+}
+
+/// Why a search ended without a row.
+#[derive(Debug, Drop)]
+pub enum PoolStop {
+    /// The budget is spent. The lemmas of the certificate, which lists no row, prove that each arrangement has at least
+    /// `proved` gaps.
+    Unfinished { pools: PoolCertificate, proved: u32 },
+    /// A gate has too many ways even where half columns stay open. Or each arrangement has more gaps than lemmas prove
+    /// then. Or no text lists the lemmas.
+    Crowded,
+    NoMemory,
+}
+
+impl From<NoMemory> for PoolStop {
+    ghost use Rattle.std.specs.Prelude.{◌≡◌};
+    ghost use Rattle.pool_trails.specs.declared.found.PoolStop.TheVariants.{NoMemory};
+
+    ghost from_gives = { λ _ e. e ≡ NoMemory };
+
+    fn from(_: NoMemory) -> PoolStop {
+        PoolStop::NoMemory
+    }
+}

@@ -1,0 +1,10 @@
+// The first least row of some fingers, with a certificate whose lemmas tell the balances of pools.
+#![tactic(auto)]
+
+mod found;
+mod gates;
+mod listed;
+mod search;
+
+pub use found::{PoolFound, PoolStop};
+pub use search::search_pool_row;

@@ -1,0 +1,101 @@
+ghost use Rattle.std.specs.Prelude.{◌≡◌, ◌↔◌, IfErr, IfOk, IsTrue};
+ghost use Rattle.cell_num.specs.Fingers.{AreFingers};
+ghost use Rattle.trail_check.specs.Justified.{gaps_proved};
+ghost use Rattle.end_search.specs.declared.proof.SearchEnd.TheVariants as ended;
+ghost use Rattle.pool_trails.specs.declared.found.PoolStop.TheVariants as stopped;
+ghost use Rattle.pool_trails.specs.Ended.{IsPoolFound, IsPoolStopped};
+ghost use Rattle.pool_trails.specs.Inner.{IsPoolProof, with_best};
+
+use crate::gates::{along, pool_gates};
+use crate::listed::listed;
+use crate::{PoolFound, PoolStop};
+use bound_log::Best;
+use cell_num::{Fingers, Halt};
+use end_search::{EndProof, SearchEnd};
+use pool_log::PoolCertificate;
+use pool_search::search_pools;
+use row_state::{Kinds, kinds};
+use std::alloc::Global;
+use trail_pools::PoolState;
+use trail_search::first_row;
+
+/// No row has more gaps.
+const MOST_GAPS: u16 = 31;
+
+fn with_row(pools: PoolCertificate, best: Best) -> PoolCertificate
+    ensures { result ≡ with_best pools best }
+{
+    PoolCertificate {
+        fill: pools.fill,
+        order: pools.order,
+        lemmas: pools.lemmas,
+        best: Some(best),
+    }
+}
+
+fn gaps_proved(ends: u32) -> u32
+    ensures { result ≡ gaps_proved ends }
+{
+    ends.saturating_sub(1) / 2
+}
+
+fn is_spent(end: SearchEnd) -> bool
+    ensures { IsTrue result ↔ (end ≡ ended.Spent) }
+{
+    match end {
+        SearchEnd::Spent => true,
+        SearchEnd::Exact | SearchEnd::Asked => false,
+    }
+}
+
+// The first row of as many gaps as the lemmas prove. The certificate lists these.
+fn row_of(
+    alloc: Global,
+    fingers: &Fingers,
+    kinds: &Kinds,
+    proof: &EndProof<PoolState>,
+    pools: PoolCertificate,
+    budget: u64,
+) -> Result<PoolFound, PoolStop>
+    requires fingers { AreFingers fingers.now }
+    requires proof { IsPoolProof fingers.now kinds.now budget proof.now pools }
+    ensures found { IfOk result (λ r. IsPoolFound fingers.now budget r.row r.pools) }
+    ensures stopped { IfErr result (IsPoolStopped fingers.now budget) }
+{
+    let proved = gaps_proved(proof.ends);
+    if is_spent(proof.end) {
+        return Err(PoolStop::Unfinished { pools, proved });
+    }
+    let mut left = proof.left;
+    match first_row(alloc, kinds, proved, false, &mut left) {
+        Ok(Some(first)) => Ok(PoolFound {
+            row: first.row,
+            pools: with_row(pools, first.best),
+        }),
+        Ok(None) => Err(PoolStop::Crowded),
+        Err(Halt::Spent) => Err(PoolStop::Unfinished { pools, proved }),
+        Err(Halt::NoMemory) => Err(PoolStop::NoMemory),
+    }
+}
+
+/// The first least arrangement of the fingers, and a certificate with the balances of pools that proves that none has
+/// fewer gaps; or what is proved when the budget is spent. The gates that `search_trails` leaves open are left open.
+/// Lemmas are looked for first, by `search_pools`, then a row of as many gaps as they prove, with the units that are
+/// left. It ends without a row where a gate has too many ways even so, or where each arrangement has more gaps.
+#[tactic(auto, using(crate::proofs::Rules::search_rules))]
+pub fn search_pool_row(alloc: Global, fingers: &Fingers, budget: u64) -> Result<PoolFound, PoolStop>
+    requires { AreFingers fingers.now }
+    ensures found { IfOk result (λ r. IsPoolFound fingers.now budget r.row r.pools) }
+    ensures stopped { IfErr result (IsPoolStopped fingers.now budget) }
+{
+    let kinds = kinds(alloc, fingers)?;
+    let gates = pool_gates(alloc, fingers)?;
+    let along = along(alloc, fingers, &gates)?;
+    let order = gates.order.as_slice();
+    let proof = search_pools(alloc, fingers, &gates.opened, order, MOST_GAPS, budget)?;
+    let listed = listed(alloc, &kinds, &along, &gates, proof.lemmas.as_slice())?;
+    let Some(pools) = listed else {
+        return Err(PoolStop::Crowded);
+    };
+    row_of(alloc, fingers, &kinds, &proof, pools, budget)
+}

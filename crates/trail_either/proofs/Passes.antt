@@ -1,0 +1,62 @@
+-- The row that an accepted certificate lists passes, and so may another.
+use Rattle.std.specs.Prelude.{ℕ, ◌≡◌, Some}
+use Rattle.std.proofs.Common.{refl}
+use Rattle.cell_num.specs.declared.finger.Fingers.{Fingers}
+use Rattle.row_state.specs.declared.kind.Kinds.{Kinds}
+use Rattle.row_state.specs.Start.{AreKinds, AreSomeKinds}
+use Rattle.bound_log.specs.declared.log.Best.{Best}
+use Rattle.bound_log.specs.Fits.{BestFits}
+use Rattle.log_check.specs.Accepted.{BestPasses, RowPasses, WithKinds}
+use Rattle.log_check.proofs.SameKinds.{for_kinds}
+use Rattle.trail_check.specs.Accepted.{least_gaps}
+use Rattle.trail_check.specs.Justified.{gaps_proved}
+use Rattle.trail_either.specs.declared.evidence.TrailEvidence.{TrailEvidence}
+use Rattle.trail_either.specs.declared.evidence.TrailEvidence.TheVariants.{Filled, Pools}
+use Rattle.trail_either.specs.Accepted.{HasFewEitherWays, IsEitherAccepted}
+use Rattle.trail_either.specs.Either.{EitherFits, best_in, either_listing}
+
+-- it has no more gaps than so many
+pub record Passes (f : Fingers) (k : Kinds) (evidence : TrailEvidence) (gaps : ℕ) : Type 0 where
+  pub proved : ℕ
+  pub best : BestPasses k f proved (best_in evidence) gaps
+
+pub passes : (f : Fingers) (k : Kinds) (evidence : TrailEvidence) (gaps : ℕ) → AreKinds f k → AreSomeKinds k → IsEitherAccepted f evidence gaps → Passes f k evidence gaps
+passes f k (Filled trails) gaps of_k some_k accepted =
+    let (j, of_j, some_j, best) = accepted.passes in
+    record { proved = least_gaps f trails; best = for_kinds f j (λ kinds. BestPasses kinds f (least_gaps f trails) trails.best gaps) of_j some_j best k of_k some_k }
+passes f k (Pools pools) gaps of_k some_k accepted =
+    let (j, of_j, some_j, best) = accepted.passes in
+    record { proved = gaps_proved accepted.ends; best = for_kinds f j (λ kinds. BestPasses kinds f (gaps_proved accepted.ends) pools.best gaps) of_j some_j best k of_k some_k }
+
+-- another row that passes where its own does may stand in its place
+pub accepted_with : (f : Fingers) (k : Kinds) (evidence : TrailEvidence) (gaps : ℕ) (best : Best) → AreKinds f k → AreSomeKinds k → IsEitherAccepted f evidence gaps → ((proved : ℕ) → BestPasses k f proved (best_in evidence) gaps → RowPasses k f proved best gaps) → IsEitherAccepted f (either_listing evidence best) gaps
+accepted_with f k (Filled trails) gaps best of_k some_k accepted each = record {
+  gates = record { order = accepted.gates.order; opened = accepted.gates.opened };
+  justified = accepted.justified;
+  passes = passed accepted.passes;
+}
+  where
+    passed : WithKinds f (λ (j : Kinds). BestPasses j f (least_gaps f trails) trails.best gaps) → WithKinds f (λ (j : Kinds). BestPasses j f (least_gaps f trails) (Some best) gaps)
+    passed (j, of_j, some_j, there) =
+        (k, of_k, some_k, each (least_gaps f trails) (for_kinds f j (λ kinds. BestPasses kinds f (least_gaps f trails) trails.best gaps) of_j some_j there k of_k some_k))
+accepted_with f k (Pools pools) gaps best of_k some_k accepted each = record {
+  ends = accepted.ends;
+  lemmas = accepted.lemmas;
+  passes = passed accepted.passes;
+}
+  where
+    passed : WithKinds f (λ (j : Kinds). BestPasses j f (gaps_proved accepted.ends) pools.best gaps) → WithKinds f (λ (j : Kinds). BestPasses j f (gaps_proved accepted.ends) (Some best) gaps)
+    passed (j, of_j, some_j, there) =
+        (k, of_k, some_k, each (gaps_proved accepted.ends) (for_kinds f j (λ kinds. BestPasses kinds f (gaps_proved accepted.ends) pools.best gaps) of_j some_j there k of_k some_k))
+
+pub few_with : (f : Fingers) (evidence : TrailEvidence) (best : Best) → HasFewEitherWays f evidence → HasFewEitherWays f (either_listing evidence best)
+few_with f (Filled trails) best few = few
+few_with f (Pools pools) best few = few
+
+pub best_with : (evidence : TrailEvidence) (best : Best) → best_in (either_listing evidence best) ≡ Some best
+best_with (Filled trails) best = refl
+best_with (Pools pools) best = refl
+
+pub fits_with : (k : Kinds) (evidence : TrailEvidence) (best : Best) → EitherFits k evidence → BestFits k best → EitherFits k (either_listing evidence best)
+fits_with k (Filled trails) best fits row = record { fill = fits.fill; increase = fits.increase; order = fits.order; lemmas = fits.lemmas; best = row }
+fits_with k (Pools pools) best fits row = record { fill = fits.fill; increase = fits.increase; order = fits.order; lemmas = fits.lemmas; best = row }

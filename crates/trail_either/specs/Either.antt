@@ -1,0 +1,40 @@
+-- What a certificate by trails of either version lists, its text, and whether a text can hold it.
+use Rattle.std.specs.Prelude.{ℕ, List, Option, Some, length}
+use Rattle.row_state.specs.declared.kind.Kinds.{Kinds}
+use Rattle.bound_log.specs.declared.log.Best.{Best}
+use Rattle.trail_log.specs.Fits.{TrailsFit}
+use Rattle.trail_log.specs.Text.{trails_text}
+use Rattle.pool_log.specs.Fits.{PoolsFit}
+use Rattle.pool_log.specs.Text.{pool_text}
+use Rattle.trail_either.specs.declared.evidence.TrailEvidence.{TrailEvidence}
+use Rattle.trail_either.specs.declared.evidence.TrailEvidence.TheVariants.{Filled, Pools}
+
+abbrev pub lemma_count : TrailEvidence → ℕ
+lemma_count (Filled trails) = length trails.lemmas
+lemma_count (Pools pools) = length pools.lemmas
+
+-- how many gates it lists as filled
+abbrev pub fill_count : TrailEvidence → ℕ
+fill_count (Filled trails) = length trails.fill
+fill_count (Pools pools) = length pools.fill
+
+-- the row that it lists
+abbrev pub best_in : TrailEvidence → Option Best
+best_in (Filled trails) = trails.best
+best_in (Pools pools) = pools.best
+
+-- the same with this row in place of its own
+abbrev pub either_listing : TrailEvidence → Best → TrailEvidence
+either_listing (Filled trails) best =
+    Filled (record { fill = trails.fill; order = trails.order; lemmas = trails.lemmas; best = Some best })
+either_listing (Pools pools) best =
+    Pools (record { fill = pools.fill; order = pools.order; lemmas = pools.lemmas; best = Some best })
+
+-- a text can hold it
+abbrev pub EitherFits : Kinds → TrailEvidence → Type 0
+EitherFits k (Filled trails) = TrailsFit k trails
+EitherFits k (Pools pools) = PoolsFit k pools
+
+abbrev pub either_text : List ℕ → TrailEvidence → List ℕ
+either_text name (Filled trails) = trails_text name trails
+either_text name (Pools pools) = pool_text name pools

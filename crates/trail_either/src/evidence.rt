@@ -1,0 +1,95 @@
+ghost use Rattle.std.specs.Prelude.{◌≡◌};
+ghost use Rattle.trail_either.specs.Either.{best_in, either_listing, fill_count, lemma_count};
+ghost use Rattle.trail_either.specs.declared.evidence.TrailEvidence.TheVariants.{Filled, Pools};
+
+use bound_log::Best;
+use order_log::OrderCertificate;
+use pool_log::PoolCertificate;
+use trail_log::TrailCertificate;
+
+/// A certificate by trails.
+#[derive(Debug, Drop)]
+pub enum TrailEvidence {
+    /// Of version 1: nodes of gates that are left open are merged.
+    Filled(TrailCertificate),
+    /// Of version 2: lemmas tell the balances of the pools of gates that are left open.
+    Pools(PoolCertificate),
+}
+
+fn filled_listing(trails: TrailCertificate, best: Best) -> TrailEvidence
+    ensures { result ≡ either_listing (Filled trails) best }
+{
+    let TrailCertificate {
+        fill,
+        order,
+        lemmas,
+        best: own,
+    } = trails;
+    drop(own);
+    TrailEvidence::Filled(TrailCertificate {
+        fill,
+        order,
+        lemmas,
+        best: Some(best),
+    })
+}
+
+fn pools_listing(pools: PoolCertificate, best: Best) -> TrailEvidence
+    ensures { result ≡ either_listing (Pools pools) best }
+{
+    let OrderCertificate {
+        fill,
+        order,
+        lemmas,
+        best: own,
+    } = pools;
+    drop(own);
+    TrailEvidence::Pools(OrderCertificate {
+        fill,
+        order,
+        lemmas,
+        best: Some(best),
+    })
+}
+
+impl TrailEvidence {
+    /// How many lemmas it has.
+    pub fn lemmas(&self) -> u64
+        ensures { result ≡ lemma_count self.now }
+    {
+        match self {
+            TrailEvidence::Filled(trails) => trails.lemmas.len() as u64,
+            TrailEvidence::Pools(pools) => pools.lemmas.len() as u64,
+        }
+    }
+
+    /// How many gates it lists as filled.
+    pub fn filled(&self) -> u64
+        ensures { result ≡ fill_count self.now }
+    {
+        match self {
+            TrailEvidence::Filled(trails) => trails.fill.len() as u64,
+            TrailEvidence::Pools(pools) => pools.fill.len() as u64,
+        }
+    }
+
+    /// The row that it lists.
+    pub fn best(&self) -> &Option<Best>
+        ensures { result.now ≡ best_in self.now }
+    {
+        match self {
+            TrailEvidence::Filled(trails) => &trails.best,
+            TrailEvidence::Pools(pools) => &pools.best,
+        }
+    }
+
+    /// The certificate with this row in place of its own.
+    pub fn listing(self, best: Best) -> TrailEvidence
+        ensures { result ≡ either_listing self best }
+    {
+        match self {
+            TrailEvidence::Filled(trails) => filled_listing(trails, best),
+            TrailEvidence::Pools(pools) => pools_listing(pools, best),
+        }
+    }
+}
