@@ -4,7 +4,6 @@ use Rattle.cell_io.specs.Desk.{Files, View}
 use Rattle.row_model.specs.declared.column.Column.{Column}
 use Rattle.row_model.specs.Gaps.{gaps_of}
 use Rattle.row_search.specs.First.{IsFirstLeast}
-use Rattle.row_place.specs.Places.{placement_of}
 use Rattle.channel_route.specs.declared.ring.Ring.{Ring}
 use Rattle.channel_route.specs.declared.routing.Routing.{Routing}
 use Rattle.track_log.specs.declared.certificate.TrackCertificate.{TrackCertificate}

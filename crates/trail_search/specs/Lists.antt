@@ -22,5 +22,5 @@ abbrev pub same_fill : List ℕ → List ℕ → Bool
 same_fill a b = pointwise (λ (m n : ℕ). m == n) a b
 
 abbrev pub same_gate : Gate → Gate → Bool
-same_gate a b =
-    pointwise same_nets a.p b.p && pointwise same_nets a.n b.n && same_fill a.p_fill b.p_fill && same_fill a.n_fill b.n_fill
+same_gate a b = pointwise same_nets a.p b.p && pointwise same_nets a.n b.n
+    && same_fill a.p_fill b.p_fill && same_fill a.n_fill b.n_fill
