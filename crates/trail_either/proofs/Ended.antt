@@ -2,7 +2,6 @@
 use Rattle.std.specs.Prelude.{ℕ, List}
 use Rattle.cell_num.specs.declared.finger.Fingers.{Fingers}
 use Rattle.row_model.specs.declared.column.Column.{Column}
-use Rattle.row_state.specs.declared.kind.Kinds.{Kinds}
 use Rattle.log_check.specs.Accepted.{WithKinds}
 use Rattle.trail_log.specs.declared.trails.TrailCertificate.{TrailCertificate}
 use Rattle.order_log.specs.declared.certificate.OrderCertificate.{OrderCertificate}

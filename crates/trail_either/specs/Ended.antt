@@ -53,7 +53,7 @@ pub record IsEitherSpent (f : Fingers) (budget : ℕ) (evidence : TrailEvidence)
   pub fits : WithKinds f (λ k. EitherFits k evidence)
   pub within : IsSpentWithin f budget evidence proved
 
--- A search for a certificate of version 1 ends at the gate, and pools do not do either.
+-- A search for a certificate of version 1 ends at the gate, and one with pools ends without a row, too.
 pub record IsEitherCrowded (f : Fingers) (gate : NetNo) : Type 0 where
   pub filled : IsCrowded f gate
   pub pools : IsPoolCrowded f

@@ -30,6 +30,7 @@ pub fn check_either(
     ensures never { IfErr result (λ cause. IsFault cause → IsNeverAccepted fingers.now evidence.now) }
     ensures least { IfOk result (IsLow fingers.now) }
     ensures low { IfErr result (Proves (IsLow fingers.now)) }
+    ensures law { (gaps : ℕ) → IsEitherAccepted fingers.now evidence.now gaps → IsLow fingers.now gaps }
     ensures lemmas { IfOk result (λ _. AreEitherTrue fingers.now evidence.now) }
 {
     match evidence {

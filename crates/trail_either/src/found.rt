@@ -19,7 +19,7 @@ pub enum EitherStop {
         evidence: TrailEvidence,
         proved: u32,
     },
-    /// The gate at which a search for a certificate of version 1 ends, and no row is found with pools.
+    /// The gate at which a search for a certificate of version 1 ends, where no row is found with pools either.
     Choices {
         gate: NetNo,
     },
