@@ -40,8 +40,8 @@ pub enum LowPlanned {
     },
     /// A cycle of the least row, where no row that can be wired is known: there is none, or the budget was spent on the
     /// search for one. The certificate proves that none is wired, within its gaps, or nothing, with no tracks. With
-    /// doglegs only rows with the fewest gaps are searched, so `none_wired` is false: none of these can be wired, or
-    /// the budget was spent. Then the certificate proves how many tracks each of these takes at least.
+    /// doglegs `none_wired` is false: only rows with the fewest gaps are searched, on fewer tracks than the cell has
+    /// nets, or the budget was spent. Then the certificate proves how many tracks each of these takes at least.
     Unwired {
         ring: Ring,
         certificate: TrackCertificate,
