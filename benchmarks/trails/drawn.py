@@ -1,6 +1,8 @@
 """Random fingers of small cells."""
 from fingers import Finger, Fingers, columns_of
 
+ON_GATE = [(1, 1), (1, 1), (2, 1), (1, 2), (2, 2), (1, 0), (0, 1), (2, 0), (0, 2), (3, 1)]   # P and N fingers of a gate
+
 
 def random_fingers(draw):
     """Up to six columns: few gates or a gate for each column, fingers that are alike, ends that are one net, empty rows."""
@@ -18,3 +20,13 @@ def paired_fingers(draw):
     nets, gates = draw.randint(3, 8), draw.randint(2, 6)
     rows = [[Finger(gate, *sorted(draw.sample(range(nets), 2)), 6) for gate in range(gates)] for _ in range(2)]
     return Fingers([f"n{net}" for net in range(nets)], *rows)
+
+
+def uneven_fingers(draw, most_columns=6):
+    """Some gates with more P fingers and some with more N fingers, with few ends in common."""
+    on_gate = [(2, 1), (1, 2), *draw.choices(ON_GATE, k=draw.randint(0, 4))]
+    draw.shuffle(on_gate)
+    nets = draw.randint(max(3, len(on_gate)), 9)
+    rows = [[Finger(gate, *sorted(draw.choices(range(nets), k=2)), 6) for gate, on in enumerate(on_gate) for _ in range(on[row])] for row in (0, 1)]
+    fingers = Fingers([f"n{net}" for net in range(nets)], *rows)
+    return fingers if columns_of(fingers) <= most_columns else uneven_fingers(draw, most_columns)

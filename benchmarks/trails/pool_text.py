@@ -1,0 +1,185 @@
+"""The text of certificates by trails of version 2, written and read, as docs/FORMATS.md has it. It shares no code with the program."""
+from collections import namedtuple
+
+from pools import POOL
+
+VERSION = "cellgen-trails 2"
+MOST_COUNT = MOST_BOUND = 64
+MOST_DONE, MOST_GAPS = 31, 63
+
+# A lemma's line: ODD and CLASSES as places, classes with their mark, FREE as balances by net.
+Line = namedtuple("Line", "bound done odd free classes")
+Certificate = namedtuple("Certificate", "fill order lines gaps columns")   # gaps and columns are None where no row is listed
+
+
+class Fault(Exception):
+    """What `check` reports of a certificate."""
+
+
+# ---- writing
+
+def listed(items, between=","):
+    return between.join(items) or "-"
+
+
+def place_text(place, in_p):
+    if place[0] != POOL:
+        return "{}.{}".format(*place)
+    return f"{place[1]}.*" if in_p else f"*.{place[1]}"
+
+
+def line_text(lemma, in_p):
+    """The line of a lemma on a state that choices lead to."""
+    met = dict(lemma.state.met)
+    odd = sorted([place for place, here in met.items() if here.odd and place[0] != POOL] + list(lemma.state.odd))
+    classes = {}
+    for place in sorted(met):
+        classes.setdefault(met[place].name, []).append(place)
+    each = ["+".join(place_text(place, in_p) for place in places) + "!" * met[name].ended for name, places in sorted(classes.items())]
+    free = [f"{net}{balance:+d}" for net, balance in sorted(lemma.state.balances)]
+    return " ".join(["lemma", str(lemma.bound), str(lemma.done), listed(place_text(node, in_p) for node in odd), listed(free), listed(each)])
+
+
+def certificate_text(name, fill, order, levels, lemmas, row=None):
+    """The text; `row` is the number of gaps and the columns' lines, if a row is listed."""
+    head = [VERSION, f"cell {name}", "fill " + listed(map(str, sorted(fill))), "order " + listed(map(str, order))]
+    ending = ["open"] if row is None else [f"gaps {row[0]}", *row[1]]
+    return "\n".join([*head, *(line_text(lemma, levels.gates.in_p) for lemma in lemmas), *ending, "end", ""])
+
+
+# ---- reading
+
+def number(word, limit):
+    """A number below the limit without sign or leading zeros."""
+    if not (word.isascii() and word.isdigit() and str(int(word)) == word and int(word) < limit):
+        raise ValueError(word)
+    return int(word)
+
+
+def count(word, most):
+    if number(word, most + 1) == 0:
+        raise ValueError(word)
+    return int(word)
+
+
+def two(word, between):
+    first, second = word.split(between)
+    return first, second
+
+
+def items(read, word, between=","):
+    return [read(one) for one in word.split(between)] if word != "-" else []
+
+
+def ascending(read, word, key=lambda item: item):
+    """A list in which each item is above the one before it."""
+    found = items(read, word)
+    if any(key(one) >= key(other) for one, other in zip(found, found[1:])):
+        raise ValueError(word)
+    return found
+
+
+class Reader:
+    """The text of a certificate for some fingers, line by line."""
+
+    def __init__(self, fingers, name):
+        self.nets, self.name = len(fingers.nets), name
+        self.kinds = [sorted(set(row)) for row in (fingers.p, fingers.n)]
+
+    def net(self, word):
+        return number(word, self.nets)
+
+    def node(self, word):
+        p, n = two(word, ".")
+        return self.net(p), self.net(n)
+
+    def place(self, word):
+        """A node is (0, P net, N net). A pool is (1, net) of the P row or (2, net) of the N row."""
+        p, n = two(word, ".")
+        if n == "*":
+            return 1, self.net(p)
+        return (2, self.net(n)) if p == "*" else (0, *self.node(word))
+
+    def balance(self, word):
+        sign = "-" if "-" in word else "+"
+        net, size = two(word, sign)
+        return self.net(net), int(sign + "1") * count(size, MOST_COUNT)
+
+    def one_class(self, word):
+        marked = word.endswith("!")
+        places = [self.place(one) for one in word[:len(word) - marked].split("+")]
+        if any(one >= other for one, other in zip(places, places[1:])):
+            raise ValueError(word)
+        return places, marked
+
+    def lemma(self, words):
+        bound, done, odd, free, classes = words
+        return Line(count(bound, MOST_BOUND), number(done, MOST_DONE + 1), ascending(self.node, odd),
+                    dict(ascending(self.balance, free, lambda one: one[0])), ascending(self.one_class, classes, lambda one: one[0][0]))
+
+    def side(self, kinds, kind, flip):
+        if flip not in ("0", "1") or (kind == "-" and flip == "1"):
+            raise ValueError(flip)
+        return None if kind == "-" else (kinds[number(kind, len(kinds))], flip == "1")
+
+    def column(self, words):
+        word, gate, *places = words
+        p_kind, p_flip, n_kind, n_flip = places
+        sides = self.side(self.kinds[0], p_kind, p_flip), self.side(self.kinds[1], n_kind, n_flip)
+        if word != "column" or sides == (None, None):
+            raise ValueError(words)
+        return self.net(gate), sides
+
+    def nets_behind(self, word, line, read):
+        front, listing = line.split(" ")
+        if front != word:
+            raise ValueError(line)
+        return read(self.net, listing)
+
+    def read(self, text):
+        """The certificate, or the first fault of the text. Each reading of a line names it."""
+        *lines, rest = text.split("\n")
+        at = 0
+
+        def line_by(read):
+            nonlocal at
+            if at == len(lines):
+                raise Fault("trails Cut")
+            at += 1
+            try:
+                return read(lines[at - 1])
+            except ValueError:
+                raise Fault(f"trails Line line {at}") from None
+
+        def entry(line):
+            words = line.split(" ")
+            if words[0] == "lemma":
+                return self.lemma(words[1:])
+            if words[0] == "gaps":
+                (gaps,) = words[1:]
+                return number(gaps, MOST_GAPS + 1)
+            if line != "open":
+                raise ValueError(line)
+            return None
+
+        def end(line):
+            if line != "end":
+                raise ValueError(line)
+
+        if line_by(str) != VERSION:
+            raise Fault("trails Version")
+        if line_by(str) != f"cell {self.name}":
+            raise Fault("trails Cell")
+        fill = line_by(lambda line: self.nets_behind("fill", line, ascending))
+        order = line_by(lambda line: self.nets_behind("order", line, items))
+        found, columns = [], None
+        while isinstance(gaps := line_by(entry), Line):
+            found.append(gaps)
+        if gaps is not None:
+            columns = []
+            while lines[at:at + 1] not in ([], ["end"]):
+                columns.append(line_by(lambda line: self.column(line.split(" "))))
+        line_by(end)
+        if lines[at:] or rest:
+            raise Fault(f"trails Line line {at + 1}")
+        return Certificate(fill, order, found, gaps, columns)

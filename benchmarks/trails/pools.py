@@ -1,0 +1,228 @@
+"""Ends of trails where half columns stay open, as docs/FORMATS.md has them for version 2 of certificates: choices, open places, states, lemmas.
+
+A node is a pair of nets, P net and N net. A pool is the pair of POOL and its net, so pools come after all nodes. It is plain and slow, and
+shares no code with the program.
+"""
+from collections import namedtuple
+from functools import lru_cache
+
+from fingers import columns_on
+from trails import Lemma, edges_of, nets_of
+
+POOL = 256                                                   # above each net
+MOST_WAYS = 65_536
+
+Choice = namedtuple("Choice", "edges halves")                # edges in order; the nets of each finger that is alone
+Met = namedtuple("Met", "name odd ended")                    # of a place: the name of its class, whether it is odd, whether the class has an end
+State = namedtuple("State", "met odd balances")              # places with their Met; odd nodes of pools; nets with balances other than 0
+Open = namedtuple("Open", "places nodes")                    # what some gates can meet: places, and the nodes of pools among it
+
+START = State(frozenset(), frozenset(), frozenset())
+
+
+class TooManyWays(Exception):
+    """The fingers of a gate pair in too many ways."""
+
+
+def nets_on(row, gate):
+    return {net for one in row if one.gate == gate for net in (one.lo, one.hi)}
+
+
+def ends_shut(balance):
+    """Odd nodes that wait stay odd. Free ends turn one node each: an odd number of them leaves one odd."""
+    return balance if balance >= 0 else -balance % 2
+
+
+def without(items, item):
+    at = items.index(item)
+    return items[:at] + items[at + 1:]
+
+
+def each_once(ways):
+    """The ways, each once. More than MOST_WAYS are too many."""
+    found = {}
+    for way in ways:
+        found[way] = None
+        if len(found) > MOST_WAYS:
+            raise TooManyWays
+    return list(found)
+
+
+def with_edges(edges, more):
+    """The edges with each of some more in turn."""
+    return (tuple(sorted((*edges, one))) for one in more)
+
+
+class Gates:
+    """The gates of an order, of which some stay open: their choices, and what they can meet."""
+
+    def __init__(self, fingers, order, fill):
+        on = {gate: [sum(one.gate == gate for one in row) for row in (fingers.p, fingers.n)] for gate in order}
+        left_open = [gate for gate in order if on[gate][0] != on[gate][1] and gate not in fill]
+        self.in_p = not left_open or on[left_open[0]][0] > on[left_open[0]][1]
+        self.fingers = fingers
+        self.counted, self.facing = (fingers.p, fingers.n) if self.in_p else (fingers.n, fingers.p)
+        self.open = {gate for gate in left_open if (on[gate][0] > on[gate][1]) == self.in_p}
+        self.pools = set().union(*(nets_on(self.counted, gate) for gate in left_open))
+        self.fewer = [{gate for gate in order if on[gate][row] < on[gate][not row]} for row in (0, 1)]
+
+    def place(self, node):
+        net = node[0 if self.in_p else 1]
+        return (POOL, net) if net in self.pools else node
+
+    def meets(self, gate):
+        """The nodes that a gate can meet."""
+        nets = []
+        for row, fewer in zip((self.fingers.p, self.fingers.n), self.fewer):
+            nets.append(nets_of(row) if gate in fewer and gate not in self.open else nets_on(row, gate))
+        return {(p, n) for p in nets[0] for n in nets[1]}
+
+    def can_meet(self, gates):
+        """The places that some of the gates can meet or end free in, and the nodes of pools that they can meet."""
+        nodes = set().union(*map(self.meets, gates))
+        free = {(POOL, net) for gate in gates if gate in self.open for net in nets_on(self.counted, gate)}
+        return Open(frozenset(map(self.place, nodes)) | free, frozenset(node for node in nodes if self.place(node) != node))
+
+    def choices(self, gate):
+        """Each choice of the gate, once."""
+        rows = [[one._replace(width=0) for one in row if one.gate == gate] for row in (self.fingers.p, self.fingers.n)]
+        return self.open_choices(*(rows if self.in_p else rows[::-1])) if gate in self.open else self.filled_choices(*rows)
+
+    def open_choices(self, counted, facing):
+        """Each finger of the facing row shares a column with one of those that are alone so far."""
+        ways = [((), tuple(counted))]
+        for one in facing:
+            pairs = ((edges, alone, other) for edges, alone in ways for other in dict.fromkeys(alone))
+            ways = each_once((more, without(alone, other)) for edges, alone, other in pairs
+                             for more in with_edges(edges, edges_of(self.fingers, *((other, one) if self.in_p else (one, other)))))
+        return [Choice(edges, tuple((one.lo, one.hi) for one in alone)) for edges, alone in ways]
+
+    def filled_choices(self, above, below):
+        """Each P finger shares a column with one of the N fingers left, or is alone where fewer are left. Then each N finger left is alone."""
+        ways = [((), tuple(below))]
+        for at, one in enumerate(above):
+            pairs = [(edges, without(left, other), (one, other)) for edges, left in ways for other in dict.fromkeys(left)]
+            pairs += [(edges, left, (one, None)) for edges, left in ways if len(left) < len(above) - at]
+            ways = self.with_columns(pairs)
+        for _ in range(len(below) - len(above)):
+            ways = self.with_columns((edges, left[1:], (None, left[0])) for edges, left in ways)
+        return [Choice(edges, ()) for edges, _ in ways]
+
+    def with_columns(self, pairs):
+        return each_once((more, left) for edges, left, column in pairs for more in with_edges(edges, edges_of(self.fingers, *column)))
+
+
+def join(met, one, other):
+    """An edge or half edge between two places: their classes are one, and each end turns its place."""
+    ends = [met.setdefault(place, Met(place, False, False)) for place in (one, other)]
+    names, ended = {end.name for end in ends}, any(end.ended for end in ends)
+    for place, here in met.items():
+        odd = here.odd ^ (place == one) ^ (place == other)
+        met[place] = Met(min(names), odd, ended) if here.name in names else here._replace(odd=odd)
+
+
+def settle(met, balances, later):
+    """The places that stay open, and how many ends are certain now."""
+    shut = {place: ends_shut(balances.get(place[1], 0)) if place[0] == POOL else int(here.odd)
+            for place, here in met.items() if place not in later.places}
+    ended = {met[place].name for place, ends in shut.items() if ends}
+    stay = {}
+    for place in sorted(met.keys() & later.places):
+        stay.setdefault(met[place].name, place)
+    closed = [place for place in shut if met[place].name == place and not met[place].ended and place not in ended and place not in stay]
+    kept = {place: Met(stay[here.name], here.odd, here.ended or here.name in ended) for place, here in met.items() if place in later.places}
+    return frozenset(kept.items()), sum(shut.values()) + 2 * len(closed)
+
+
+class PoolLevels:
+    """The gates of an order: the choices of each, and what is open before it and behind it."""
+
+    def __init__(self, fingers, order, fill):
+        self.gates = Gates(fingers, order, fill)
+        self.crowded, self.choices = None, []
+        for gate in order:
+            try:
+                self.choices.append(self.gates.choices(gate))
+            except TooManyWays:
+                self.crowded = gate
+                return
+        self.open = [self.gates.can_meet(order[at:]) for at in range(len(order) + 1)]
+
+    def after(self, done, state, choice):
+        """The state behind a choice of the next gate, and the ends that are certain then."""
+        later, place = self.open[done + 1], self.gates.place
+        met, odd, balances = dict(state.met), set(state.odd), dict(state.balances)
+        for edge in choice.edges:
+            join(met, *map(place, edge))
+            for node in edge:
+                odd ^= {node} if place(node) != node else set()
+        for half in choice.halves:
+            join(met, *((POOL, net) for net in half))
+            for net in half:
+                balances[net] = balances.get(net, 0) - 1
+        for node in odd - later.nodes:
+            net = place(node)[1]
+            balances[net] = balances.get(net, 0) + 1
+        kept, ends = settle(met, balances, later)
+        left = frozenset((net, balance) for net, balance in balances.items() if balance and (POOL, net) in later.places)
+        return State(kept, frozenset(odd & later.nodes), left), ends
+
+    def behind(self, done, state):
+        """What each choice of the next gate comes to."""
+        return (self.after(done, state, choice) for choice in self.choices[done])
+
+    def least(self):
+        """The fewest ends of all lists of choices, one of each gate."""
+        @lru_cache(maxsize=None)
+        def rest(done, state):
+            if done == len(self.choices):
+                return 0
+            return min(ends + rest(done + 1, next_state) for next_state, ends in self.behind(done, state))
+        return rest(0, START)
+
+    def lemmas(self, ends):
+        """Lemmas by which so many ends come, each behind those that it rests on; none, where some list of choices has fewer ends."""
+        found, known, failed = [], {}, {}
+
+        def come(done, state, need):
+            at = done, state
+            if need <= known.get(at, 0):
+                return True
+            if done == len(self.choices) or need >= failed.get(at, need + 1):
+                return False
+            if not all(come(done + 1, next_state, need - more) for next_state, more in self.behind(done, state)):
+                failed[at] = need
+                return False
+            known[at] = need
+            found.append(Lemma(need, done, state))
+            return True
+        return found if come(0, START, ends) else None
+
+    def first_unproved(self, lemmas):
+        """The place of the first lemma that does not follow from those before it, and the ends that are proved of the start."""
+        best = {}
+        for at, (bound, done, state) in enumerate(lemmas):
+            if done >= len(self.choices):
+                return at, None
+            if any(ends + best.get((done + 1, next_state), 0) < bound for next_state, ends in self.behind(done, state)):
+                return at, None
+            best[done, state] = max(bound, best.get((done, state), 0))
+        return None, best.get((0, START), 0)
+
+
+def uneven(fingers):
+    """The gates with half columns."""
+    return [gate for gate, (_, halves) in columns_on(fingers).items() if halves]
+
+
+def short_order(fingers, fill):
+    """An order of the gates: after each as few places as possible are open that it or an earlier gate can meet."""
+    left, met, order = set(columns_on(fingers)), set(), []
+    gates = Gates(fingers, sorted(left), fill)
+    while left:
+        def width(gate):
+            return len((met | gates.can_meet([gate]).places) & gates.can_meet(left - {gate}).places), gate
+        order.append(min(left, key=width))
+        left.remove(order[-1])
+        met |= gates.can_meet([order[-1]]).places
+    return order
