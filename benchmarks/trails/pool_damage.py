@@ -1,0 +1,167 @@
+"""Changes of certificates by trails of version 2, one at a time, as text. Many are faults; some say the same or say something else that is true."""
+HEAD = 4                                                     # lines before the lemmas
+
+
+def words_with(line, at, word):
+    words = line.split(" ")
+    words[at] = word
+    return " ".join(words)
+
+
+def split(word, between=","):
+    return [] if word == "-" else word.split(between)
+
+
+def joined(items):
+    return ",".join(items) or "-"
+
+
+def less(draw, items):
+    """The items but one."""
+    at = draw.randrange(len(items))
+    return items[:at] + items[at + 1:]
+
+
+def any_place(draw, nets):
+    p, n = draw.randrange(nets), draw.randrange(nets)
+    return draw.choice((f"{p}.{n}", f"{p}.{n}", f"{p}.*", f"*.{n}"))
+
+
+def rank(place):
+    p, n = place.rstrip("!").split(".")
+    return (1, int(p)) if n == "*" else (2, int(n)) if p == "*" else (0, int(p), int(n))
+
+
+def in_order(places):
+    """The places of a class in the order of a text."""
+    marked = any(place.endswith("!") for place in places)
+    return "+".join(sorted({place.rstrip("!") for place in places}, key=rank)) + "!" * marked
+
+
+def of_nodes(draw, nets, items):
+    """Changes of ODD."""
+    node = f"{draw.randrange(nets)}.{draw.randrange(nets)}"
+    yield "an odd node more", sorted({*items, node}, key=rank)
+    if items:
+        yield "an odd node less", less(draw, items)
+        yield "another odd node", sorted({*items[1:], node}, key=rank)
+        yield "odd nodes turned round", items[::-1]
+
+
+def of_balances(draw, nets, items):
+    """Changes of FREE."""
+    by_net = {int(item.replace("-", "+").split("+")[0]): item for item in items}
+
+    def put(changed):
+        return [changed[net] for net in sorted(changed)]
+    net, count = draw.randrange(nets), draw.choice((1, 1, 2, 64, 65, 0))
+    yield "a balance set", put({**by_net, net: f"{net}{draw.choice('+-')}{count}"})
+    yield "a balance of no net", put({**by_net, nets: f"{nets}+1"})
+    if items:
+        net = draw.choice(sorted(by_net))
+        item = by_net[net]
+        yield "a balance dropped", put({other: it for other, it in by_net.items() if other != net})
+        yield "waiting for free", put({**by_net, net: item.translate(str.maketrans("+-", "-+"))})
+        yield "a balance more by two", put({**by_net, net: item[:-1] + str((int(item[-1]) + 2) % 10)})
+        yield "balances turned round", items[::-1]
+
+
+def of_classes(draw, nets, items):
+    """Changes of CLASSES."""
+    new = any_place(draw, nets)
+
+    def put(classes):
+        kept = [in_order(one.split("+")) for one in classes if one]
+        return sorted(kept, key=lambda one: rank(one.split("+")[0]))
+    yield "a class more", put([*items, new])
+    if not items:
+        return
+    at = draw.randrange(len(items))
+    one, rest = items[at], items[:at] + items[at + 1:]
+    places = one.split("+")
+    yield "a class less", rest
+    yield "a mark turned", [one.rstrip("!") if it == one and "!" in one else it + "!" * (it == one) for it in items]
+    yield "a place more", put([*rest, f"{new}+{one}"])
+    yield "a place less", put([*rest, "+".join(less(draw, places))])
+    yield "classes turned round", items[::-1]
+    if rest:
+        other = draw.choice(rest)
+        moved = draw.choice(other.rstrip("!").split("+"))
+        yield "a place in two classes", put([*rest, f"{moved}+{one}"])
+        yield "two classes joined", put([*(it for it in rest if it != other), f"{other}+{one}"])
+    if len(places) > 1:
+        cut = draw.randrange(1, len(places))
+        yield "a class parted", put([*rest, "+".join(places[:cut]), "+".join(places[cut:])])
+
+
+def of_lemma(draw, nets, line):
+    """The lemma with one field changed."""
+    _, bound, done, odd, free, classes = line.split(" ")
+    yield "a greater bound", words_with(line, 1, str(int(bound) + draw.choice((1, 2))))
+    yield "a lesser bound", words_with(line, 1, str(int(bound) - 1))
+    yield "other gates", words_with(line, 2, str(int(done) + draw.choice((1, -1, 30))))
+    for at, word, of in ((3, odd, of_nodes), (4, free, of_balances), (5, classes, of_classes)):
+        for what, items in of(draw, nets, split(word)):
+            yield what, words_with(line, at, joined(items))
+
+
+def of_nets(draw, nets, line, name):
+    """Changes of `fill` or `order`."""
+    word = line.split(" ")[1]
+    items = split(word)
+    yield f"{name} more", f"{name} " + joined(sorted({*items, str(draw.randrange(nets))}, key=int))
+    yield f"{name} of no net", f"{name} " + joined([*items, str(nets)])
+    if items:
+        yield f"{name} less", f"{name} " + joined(less(draw, items))
+        yield f"{name} twice", f"{name} " + joined([*items, items[-1]])
+    if len(items) > 1:
+        first, second = draw.sample(range(len(items)), 2)
+        items[first], items[second] = items[second], items[first]
+        yield f"{name} swapped", f"{name} " + joined(items)
+
+
+def of_row(draw, lines, first):
+    """Changes of the row, whose line `gaps` is the one with this number."""
+    gaps = int(lines[first].split(" ")[1])
+    columns = range(first + 1, len(lines) - 1)
+    yield "gaps more", [*lines[:first], f"gaps {gaps + 1}", *lines[first + 1:]]
+    yield "gaps less", [*lines[:first], f"gaps {gaps - 1}", *lines[first + 1:]]
+    yield "no row", [*lines[:first], "open", "end"]
+    at, other = draw.choice(columns), draw.choice(columns)
+    yield "column dropped", lines[:at] + lines[at + 1:]
+    yield "column twice", lines[:at] + lines[at:at + 1] + lines[at:]
+    swapped = list(lines)
+    swapped[at], swapped[other] = lines[other], lines[at]
+    yield "columns swapped", swapped
+    field = draw.randint(1, 5)
+    yield "a column changed", [*lines[:at], words_with(lines[at], field, draw.choice("-0123")), *lines[at + 1:]]
+
+
+def changes(draw, nets, lines):
+    """Pairs of what is changed and the lines then."""
+    def put(at, *new):
+        return [*lines[:at], *new, *lines[at + 1:]]
+    yield "nothing", lines
+    yield "version 3", put(0, "cellgen-trails 3")
+    yield "another name", put(1, lines[1] + "y")
+    for at, name in ((2, "fill"), (3, "order")):
+        for what, line in of_nets(draw, nets, lines[at], name):
+            yield what, put(at, line)
+    lemmas = [at for at, line in enumerate(lines) if line.startswith("lemma ")]
+    for at in draw.sample(lemmas, min(3, len(lemmas))):
+        for what, line in of_lemma(draw, nets, lines[at]):
+            yield what, put(at, line)
+    if lemmas:
+        at, other = draw.choice(lemmas), draw.choice(lemmas)
+        yield "a lemma dropped", put(at)
+        yield "a lemma twice", put(at, lines[at], lines[at])
+        swapped = put(at, lines[other])
+        swapped[other] = lines[at]
+        yield "lemmas swapped", swapped
+        yield "a number with a zero", put(at, lines[at].replace("lemma ", "lemma 0"))
+        yield "two spaces", put(at, lines[at].replace(" ", "  ", 1))
+    first = HEAD + len(lemmas)
+    if lines[first].startswith("gaps "):
+        yield from of_row(draw, lines, first)
+    yield "no end", lines[:-1]
+    yield "more behind the end", [*lines, "end"]
