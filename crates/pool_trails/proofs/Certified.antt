@@ -1,5 +1,5 @@
 -- The first row of the proved number is the first least one, and its certificate is accepted.
-use Rattle.std.specs.Prelude.{ℕ, ◌≡◌, ◌+◌, ◌-◌, ◌≤◌, ◌<◌, ◌⊎◌, List, IsNone}
+use Rattle.std.specs.Prelude.{ℕ, ◌≡◌, ◌+◌, ◌≤◌, ◌<◌, ◌⊎◌, Bool, List, IsNone}
 use Rattle.std.proofs.Common.{refl, sym, ap, subst, arith, inl, inr}
 use Rattle.cell_num.specs.declared.finger.Fingers.{Fingers}
 use Rattle.cell_num.specs.declared.net.NetNo.{NetNo}
@@ -22,10 +22,8 @@ use Rattle.trail_check.specs.Accepted.{IsLow}
 use Rattle.trail_check.specs.Justified.{gaps_proved}
 use Rattle.trail_search.specs.declared.first.ListedRow.{ListedRow}
 use Rattle.trail_search.specs.First.{IsFirstRow}
-use Rattle.trail_search.specs.Searched.{AreSearched}
 use Rattle.trail_search.specs.Visit.{IsFirstOf}
 use Rattle.trail_search.proofs.Certified.{few_gaps, first_least, gaps_are, row_gaps, row_passes}
-use Rattle.trail_search.proofs.Spent.{searched_less}
 use Rattle.trail_pools.specs.declared.state.PoolState.{PoolState}
 use Rattle.trail_pools.specs.Leveled.{levels_of}
 use Rattle.trail_pools.specs.State.{start}
@@ -40,22 +38,24 @@ use Rattle.pool_check.specs.Accepted.{IsAccepted as AreAccepted}
 use Rattle.pool_check.specs.Stepping.{steps_of}
 use Rattle.pool_check.proofs.Low.{accepted_low}
 use Rattle.pool_certificate.specs.Accepted.{lemmas_of, open_of}
-use Rattle.pool_trails.specs.Ended.{IsPoolCertified, IsPoolFound, IsPooledInVain, IsPoolSpent}
-use Rattle.pool_trails.specs.Found.{opened_of}
+use Rattle.pool_trails.specs.declared.gates.PoolGates.{PoolGates}
+use Rattle.pool_trails.specs.declared.opening.Opening.{Opening}
+use Rattle.pool_trails.specs.Ended.{IsPoolCertified, IsPoolFound, IsPooledInVain, IsPoolSpent, WentForRow, first_units}
 use Rattle.pool_trails.specs.Inner.{IsPoolProof, with_best}
+use Rattle.pool_trails.specs.Opening.{is_uncrowded, opened_of}
 
 -- Where not as many gaps were asked for as are proved, and units are left, no lemmas prove more.
-most_by : (f : Fingers) (order : List NetNo) (ends left : ℕ) (end : SearchEnd)
-    → EndsAs (steps_of f (opened_of f order)) (levels_of f (opened_of f order) order) start 31 ends left end
+most_by : (opening : Opening) (f : Fingers) (order : List NetNo) (ends left : ℕ) (end : SearchEnd)
+    → EndsAs (steps_of f (opened_of opening f order)) (levels_of f (opened_of opening f order) order) start 31 ends left end
     → (end ≡ ended.Spent → ⊥) → gaps_proved ends < 31
-    → HasFewer (steps_of f (opened_of f order)) (levels_of f (opened_of f order) order) start (next_need ends)
-most_by f order ends left ended.Exact h whole few = h
-most_by f order ends left ended.Asked h whole few = absurd (omega (arith, h, few))
-most_by f order ends left ended.Spent h whole few = absurd (whole refl)
+    → HasFewer (steps_of f (opened_of opening f order)) (levels_of f (opened_of opening f order) order) start (next_need ends)
+most_by opening f order ends left ended.Exact h whole few = h
+most_by opening f order ends left ended.Asked h whole few = absurd (omega (arith, h, few))
+most_by opening f order ends left ended.Spent h whole few = absurd (whole refl)
 
-module _ (f : Fingers) (k : Kinds) (budget : ℕ) (proof : EndProof PoolState) (pools : OrderCertificate PoolLine)
-    (ok : AreFingers f) (p : IsPoolProof f k budget proof pools) where
-  open_is : open_of f pools ≡ opened_of f pools.order
+module _ (f : Fingers) (gates : PoolGates) (k : Kinds) (budget : ℕ) (proof : EndProof PoolState)
+    (pools : OrderCertificate PoolLine) (ok : AreFingers f) (p : IsPoolProof f gates k budget proof pools) where
+  open_is : open_of f pools ≡ opened_of gates.opening f pools.order
   open_is = ap (λ (gs : List NetNo). open_in f gs pools.order) p.searched.fill
 
   found : IsEndProof (steps_of f (open_of f pools)) (levels_of f (open_of f pools) pools.order) start 31 budget proof
@@ -100,9 +100,9 @@ module _ (f : Fingers) (k : Kinds) (budget : ℕ) (proof : EndProof PoolState) (
 
   -- the first row of as many gaps as are proved
   found_at : (listed : ListedRow) → IsFirstRow k (gaps_proved proof.ends) listed
-      → IsPoolFound f budget listed.row (with_best pools listed.best)
+      → IsPoolFound gates.opening f budget listed.row (with_best pools listed.best)
   found_at listed h =
-      subst (λ (z : ListedRow). IsPoolFound f budget z.row (with_best pools z.best)) (sym h.is)
+      subst (λ (z : ListedRow). IsPoolFound gates.opening f budget z.row (with_best pools z.best)) (sym h.is)
       (record {
         first = first_least k f (gaps_proved proof.ends) h.steps p.of_fingers low h.first;
         certified = (k, p.of_fingers, p.some_kinds, certified h.steps h.first);
@@ -112,8 +112,9 @@ module _ (f : Fingers) (k : Kinds) (budget : ℕ) (proof : EndProof PoolState) (
       })
 
   spent_is : (proof.left ≡ 0)
-      ⊎ WithKinds f (λ (x : Kinds). AreSearched x (gaps_proved proof.ends + 1) proof.left (columns_of f))
-      → IsPoolSpent f budget pools (gaps_proved proof.ends)
+      ⊎ WithKinds f (λ (x : Kinds).
+      WentForRow x (gaps_proved proof.ends + 1) (is_uncrowded f pools.order) proof.left (columns_of f))
+      → IsPoolSpent gates.opening f budget pools (gaps_proved proof.ends)
   spent_is work = record {
     proof = proof;
     lists_none = subst IsNone (sym p.rowless) refl;
@@ -127,32 +128,31 @@ module _ (f : Fingers) (k : Kinds) (budget : ℕ) (proof : EndProof PoolState) (
   }
 
   -- the search for lemmas left no units
-  lemmas_spent_at : proof.end ≡ ended.Spent → IsPoolSpent f budget pools (gaps_proved proof.ends)
+  lemmas_spent_at : proof.end ≡ ended.Spent → IsPoolSpent gates.opening f budget pools (gaps_proved proof.ends)
   lemmas_spent_at e = spent_is (inl (subst (λ (z : SearchEnd).
       EndsAs (steps_of f (open_of f pools)) (levels_of f (open_of f pools) pools.order) start 31 proof.ends
       proof.left z)
       e found.end_is))
 
-  -- the search for a row left none
-  row_spent_at : (after : ℕ) → after ≡ 0
-      → AreSearched k (gaps_proved proof.ends + 1) (proof.left - after) (columns_left k (start_of k))
-      → IsPoolSpent f budget pools (gaps_proved proof.ends)
-  row_spent_at after none went = spent_is (inr (
+  -- the searches for a row left none
+  row_spent_at : WentForRow k (gaps_proved proof.ends + 1) gates.uncrowded proof.left (columns_left k (start_of k))
+      → IsPoolSpent gates.opening f budget pools (gaps_proved proof.ends)
+  row_spent_at went = spent_is (inr (
     k,
     p.of_fingers,
     p.some_kinds,
-    searched_less k (gaps_proved proof.ends + 1) (proof.left - after) proof.left (columns_left k (start_of k))
-        (columns_of f)
-        (omega (arith, none)) (sym (columns_same f k p.of_fingers)) went,
+    subst (λ (twice : Bool). WentForRow k (gaps_proved proof.ends + 1) twice proof.left (columns_of f)) p.none_crowded
+        (subst (λ (n : ℕ). WentForRow k (gaps_proved proof.ends + 1) gates.uncrowded proof.left n)
+        (sym (columns_same f k p.of_fingers)) went),
   ))
 
   -- Every arrangement has more gaps. So not as many as a row can have were proved, and no lemmas prove more.
-  in_vain_at : (proof.end ≡ ended.Spent → ⊥) → Need k (start_of k) (gaps_proved proof.ends + 1) → IsPooledInVain f
+  in_vain_at : (proof.end ≡ ended.Spent → ⊥) → Need k (start_of k) (gaps_proved proof.ends + 1) → IsPooledInVain gates.opening f
   in_vain_at whole need = record {
     order = pools.order;
     is = p.order;
     ends = proof.ends;
-    most = most_by f pools.order proof.ends proof.left proof.end p.searched.found.end_is whole few_enough;
+    most = most_by gates.opening f pools.order proof.ends proof.left proof.end p.searched.found.end_is whole few_enough;
     more = more;
   }
     where
@@ -175,20 +175,19 @@ module _ (f : Fingers) (k : Kinds) (budget : ℕ) (proof : EndProof PoolState) (
     few_proved = omega (arith, e, few)
 
     pub found_is : (listed : ListedRow) (made : OrderCertificate PoolLine) → IsFirstRow k proved listed
-        → made ≡ with_best pools listed.best → IsPoolFound f budget listed.row made
+        → made ≡ with_best pools listed.best → IsPoolFound gates.opening f budget listed.row made
     found_is listed made h is =
-        subst (λ (z : OrderCertificate PoolLine). IsPoolFound f budget listed.row z) (sym is)
+        subst (λ (z : OrderCertificate PoolLine). IsPoolFound gates.opening f budget listed.row z) (sym is)
         (found_at listed (subst (λ (n : ℕ). IsFirstRow k n listed) e h))
 
-    pub lemmas_spent : proof.end ≡ ended.Spent → IsPoolSpent f budget pools proved
-    lemmas_spent spent = subst (IsPoolSpent f budget pools) (sym e) (lemmas_spent_at spent)
+    pub lemmas_spent : proof.end ≡ ended.Spent → IsPoolSpent gates.opening f budget pools proved
+    lemmas_spent spent = subst (IsPoolSpent gates.opening f budget pools) (sym e) (lemmas_spent_at spent)
 
-    pub row_spent : (after : ℕ) → after ≡ 0
-        → AreSearched k (proved + 1) (proof.left - after) (columns_left k (start_of k))
-        → IsPoolSpent f budget pools proved
-    row_spent after none went =
-        subst (IsPoolSpent f budget pools) (sym e) (row_spent_at after none (subst (λ (n : ℕ).
-        AreSearched k (n + 1) (proof.left - after) (columns_left k (start_of k))) e went))
+    pub row_spent : WentForRow k (proved + 1) gates.uncrowded proof.left (columns_left k (start_of k))
+        → IsPoolSpent gates.opening f budget pools proved
+    row_spent went =
+        subst (IsPoolSpent gates.opening f budget pools) (sym e) (row_spent_at (subst (λ (n : ℕ).
+        WentForRow k (n + 1) gates.uncrowded proof.left (columns_left k (start_of k))) e went))
 
-    pub in_vain : (proof.end ≡ ended.Spent → ⊥) → Need k (start_of k) (proved + 1) → IsPooledInVain f
+    pub in_vain : (proof.end ≡ ended.Spent → ⊥) → Need k (start_of k) (proved + 1) → IsPooledInVain gates.opening f
     in_vain whole need = in_vain_at whole (subst (λ (n : ℕ). Need k (start_of k) (n + 1)) e need)

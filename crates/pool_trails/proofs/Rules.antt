@@ -1,5 +1,5 @@
 -- The lemmas that functions name, by function.
-use Rattle.trail_search.proofs.Proving.{filled_are}
+use Rattle.pool_trails.proofs.Opened.{filled_are}
 use Rattle.pool_trails.proofs.Lists.{all_alike, lists_tells, more_alike, one_unlike}
 use Rattle.pool_trails.proofs.Lists.{other_fill, other_order, others_read, text_long, with_row}
 use Rattle.pool_trails.proofs.Searched.{few_gates}

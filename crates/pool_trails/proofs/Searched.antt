@@ -10,7 +10,6 @@ use Rattle.row_state.specs.Start.{AreKinds, AreSomeKinds}
 use Rattle.trail_state.specs.Levels.{IsOrder}
 use Rattle.open_gates.specs.declared.gates.OpenGates.{OpenGates}
 use Rattle.open_gates.specs.Open.{open_in}
-use Rattle.trail_search.specs.Filling.{filled_gates}
 use Rattle.trail_search.proofs.Orders.{order_short}
 use Rattle.trail_pools.specs.declared.level.PoolLevel.{PoolLevel}
 use Rattle.trail_pools.specs.declared.pools.Pools.{Pools}
@@ -36,8 +35,9 @@ use Rattle.pool_certificate.specs.Accepted.{lemmas_along, lemmas_of, open_of}
 use Rattle.pool_trails.specs.declared.found.PoolStop.{PoolStop}
 use Rattle.pool_trails.specs.declared.gates.PoolGates.{PoolGates}
 use Rattle.pool_trails.specs.Ended.{HasManyOpen, IsSearched, IsUnlisted}
-use Rattle.pool_trails.specs.Found.{IsFoundAlong, certificate_of, line_at, opened_of}
+use Rattle.pool_trails.specs.Found.{IsFoundAlong, certificate_of, line_at}
 use Rattle.pool_trails.specs.Inner.{ArePoolGates, AreUnlistedAlong, IsPoolProof, ListAlong, Stops, lined, stop_of}
+use Rattle.pool_trails.specs.Opening.{fill_by, is_uncrowded, opened_of}
 
 abbrev with_lines : List NetNo → List NetNo → List PoolLine → OrderCertificate PoolLine
 with_lines fill order lines = record { fill = fill; order = order; lemmas = lines; best = None }
@@ -49,7 +49,7 @@ module _ (f : Fingers) (gates : PoolGates) (g : ArePoolGates f gates) where
 
   many_at : (why : PoolRefusal)
       → (why ≢ cause.NoMemory → (lemmas : List (EndLemma PoolState)) → Refuses f gates.opened gates.order lemmas why)
-      → Stops (HasManyOpen f) (stop_of why)
+      → Stops (HasManyOpen gates.opening f) (stop_of why)
   many_at cause.Order h = absurd (h (λ e. cc) [] g.is)
   many_at (cause.Choices gate) h = record {
     order = gates.order;
@@ -66,20 +66,20 @@ module _ (f : Fingers) (gates : PoolGates) (g : ArePoolGates f gates) where
   -- no lemmas can be checked along the order, whatever they are
   pub many_open : (why : PoolRefusal) (stop : PoolStop) (order : List NetNo) → order ≡ gates.order → stop ≡ stop_of why
       → (why ≢ cause.NoMemory → (lemmas : List (EndLemma PoolState)) → Refuses f gates.opened order lemmas why)
-      → Stops (HasManyOpen f) stop
+      → Stops (HasManyOpen gates.opening f) stop
   many_open why stop order same is h =
-      subst (Stops (HasManyOpen f)) (sym is) (many_at why (λ other lemmas.
+      subst (Stops (HasManyOpen gates.opening f)) (sym is) (many_at why (λ other lemmas.
       subst (λ (gs : List NetNo). Refuses f gates.opened gs lemmas why) same (h other lemmas)))
 
   module _ (k : Kinds) (along : PoolOrder) (budget : ℕ) (proof : EndProof PoolState)
-      (a : IsAlong f (opened_of f gates.order) gates.order along)
+      (a : IsAlong f (opened_of gates.opening f gates.order) gates.order along)
       (found : IsEndProof (steps_of f gates.opened) (levels_of f gates.opened gates.order) start 31 budget proof) where
-    found_along : IsFoundAlong f gates.order budget proof
+    found_along : IsFoundAlong gates.opening f gates.order budget proof
     found_along = subst (λ (o : OpenGates). IsEndProof (steps_of f o) (levels_of f o gates.order) start 31 budget proof)
         g.open_are found
 
     module _ (pools : OrderCertificate PoolLine) (l : ListAlong along gates proof.lemmas pools) where
-      open_same : opened_of f gates.order ≡ open_of f pools
+      open_same : opened_of gates.opening f gates.order ≡ open_of f pools
       open_same =
           ap (λ (gs : List NetNo). open_in f gs gates.order) (sym (l.fill ∙ g.filled))
           ∙ ap (λ (gs : List NetNo). open_in f pools.fill gs) (sym l.order)
@@ -88,51 +88,52 @@ module _ (f : Fingers) (gates : PoolGates) (g : ArePoolGates f gates) where
       listed_same =
           subst (λ (o : OpenGates). lemmas_along (pools_of f o) (levels_of f o pools.order) pools.lemmas ≡ proof.lemmas)
           open_same
-          (subst (λ (gs : List NetNo). lemmas_along (pools_of f (opened_of f gates.order))
-          (levels_of f (opened_of f gates.order) gs) pools.lemmas ≡ proof.lemmas) (sym l.order)
-          (subst (λ (ls : List PoolLevel). lemmas_along (pools_of f (opened_of f gates.order)) ls pools.lemmas
+          (subst (λ (gs : List NetNo). lemmas_along (pools_of f (opened_of gates.opening f gates.order))
+          (levels_of f (opened_of gates.opening f gates.order) gs) pools.lemmas ≡ proof.lemmas) (sym l.order)
+          (subst (λ (ls : List PoolLevel). lemmas_along (pools_of f (opened_of gates.opening f gates.order)) ls pools.lemmas
           ≡ proof.lemmas) a.levels
           (subst (λ (ps : Pools). lemmas_along ps along.levels pools.lemmas ≡ proof.lemmas) a.pools l.listed)))
 
-      searched : IsSearched f budget pools proof
+      searched : IsSearched gates.opening f budget pools proof
       searched = record {
-        fill = l.fill ∙ g.filled ∙ ap (filled_gates f) (sym l.order);
+        fill = l.fill ∙ g.filled ∙ ap (fill_by gates.opening f) (sym l.order);
         listed = listed_same;
-        found = subst (λ (gs : List NetNo). IsFoundAlong f gs budget proof) (sym l.order) found_along;
+        found = subst (λ (gs : List NetNo). IsFoundAlong gates.opening f gs budget proof) (sym l.order) found_along;
       }
 
       few_ways : HasFewWays f (open_of f pools) pools.order
       few_ways =
           subst (λ (o : OpenGates). HasFewWays f o pools.order) open_same
-          (subst (λ (gs : List NetNo). HasFewWays f (opened_of f gates.order) gs) (sym l.order) a.few_ways)
+          (subst (λ (gs : List NetNo). HasFewWays f (opened_of gates.opening f gates.order) gs) (sym l.order) a.few_ways)
 
-      is_proof : AreKinds f k → AreSomeKinds k → PoolsFit k pools → IsPoolProof f k budget proof pools
+      is_proof : AreKinds f k → AreSomeKinds k → PoolsFit k pools → IsPoolProof f gates k budget proof pools
       is_proof of_f kinds fits = record {
         of_fingers = of_f;
         some_kinds = kinds;
         order = subst (IsOrder f) (sym l.order) g.is;
         few_ways = few_ways;
         searched = searched;
+        none_crowded = g.none_crowded ∙ ap (is_uncrowded f) (sym l.order);
         rowless = l.rowless;
         fits = fits;
       }
 
-    lined_same : certificate_of f gates.order proof.lemmas ≡ lined along gates proof.lemmas
+    lined_same : certificate_of gates.opening f gates.order proof.lemmas ≡ lined along gates proof.lemmas
     lined_same =
         ap (λ (fill : List NetNo). with_lines fill gates.order
-        (map (line_at (pools_of f (opened_of f gates.order))) proof.lemmas)) (sym g.filled)
+        (map (line_at (pools_of f (opened_of gates.opening f gates.order))) proof.lemmas)) (sym g.filled)
         ∙ ap (λ (ps : Pools). with_lines gates.fill gates.order (map (line_at ps) proof.lemmas)) (sym a.pools)
 
-    lines_same : lemmas_of f (certificate_of f gates.order proof.lemmas) ≡ proof.lemmas
+    lines_same : lemmas_of f (certificate_of gates.opening f gates.order proof.lemmas) ≡ proof.lemmas
         → lemmas_along along.steps.pools along.levels (map (line_at along.steps.pools) proof.lemmas) ≡ proof.lemmas
     lines_same h =
         subst (λ (ls : List PoolLevel). lemmas_along along.steps.pools ls (map (line_at along.steps.pools) proof.lemmas)
         ≡ proof.lemmas) (sym a.levels)
-        (subst (λ (ps : Pools). lemmas_along ps (levels_of f (opened_of f gates.order) gates.order)
+        (subst (λ (ps : Pools). lemmas_along ps (levels_of f (opened_of gates.opening f gates.order) gates.order)
         (map (line_at ps) proof.lemmas) ≡ proof.lemmas) (sym a.pools) h)
 
     -- no text lists the lemmas
-    unlisted : AreKinds f k → AreSomeKinds k → AreUnlistedAlong k along gates proof.lemmas → IsUnlisted f
+    unlisted : AreKinds f k → AreSomeKinds k → AreUnlistedAlong k along gates proof.lemmas → IsUnlisted gates.opening f
     unlisted of_f kinds none = record {
       order = gates.order;
       is = g.is;
@@ -152,20 +153,20 @@ module _ (f : Fingers) (gates : PoolGates) (g : ArePoolGates f gates) where
 
 module _ (f : Fingers) (gates : PoolGates) (g : ArePoolGates f gates) (k : Kinds) (along : PoolOrder) (budget : ℕ)
     (proof : EndProof PoolState) (order : List NetNo) (lemmas : List (EndLemma PoolState)) (same : order ≡ gates.order)
-    (listed : lemmas ≡ proof.lemmas) (a : IsAlong f (opened_of f gates.order) gates.order along)
+    (listed : lemmas ≡ proof.lemmas) (a : IsAlong f (opened_of gates.opening f gates.order) gates.order along)
     (found : IsEndProof (steps_of f gates.opened) (levels_of f gates.opened order) start 31 budget proof)
     (of_f : AreKinds f k) (kinds : AreSomeKinds k) where
   found_there : IsEndProof (steps_of f gates.opened) (levels_of f gates.opened gates.order) start 31 budget proof
   found_there = subst (λ (gs : List NetNo). IsEndProof (steps_of f gates.opened) (levels_of f gates.opened gs) start 31
       budget proof) same found
 
-  pub unlisted_by : AreUnlistedAlong k along gates lemmas → IsUnlisted f
+  pub unlisted_by : AreUnlistedAlong k along gates lemmas → IsUnlisted gates.opening f
   unlisted_by none =
       unlisted f gates g k along budget proof a found_there of_f kinds
       (subst (AreUnlistedAlong k along gates) listed none)
 
   pub proof_by : (pools : OrderCertificate PoolLine) → PoolsFit k pools → ListAlong along gates lemmas pools
-      → IsPoolProof f k budget proof pools
+      → IsPoolProof f gates k budget proof pools
   proof_by pools fits l =
       is_proof f gates g k along budget proof a found_there pools
       (subst (λ (ls : List (EndLemma PoolState)). ListAlong along gates ls pools) listed l) of_f kinds fits

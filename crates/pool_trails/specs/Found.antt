@@ -3,9 +3,6 @@ use Rattle.std.specs.Prelude.{ℕ, ◌≡◌, ◌≤◌, List, None, codes, leng
 use Rattle.cell_num.specs.declared.finger.Fingers.{Fingers}
 use Rattle.cell_num.specs.declared.net.NetNo.{NetNo}
 use Rattle.row_state.specs.declared.kind.Kinds.{Kinds}
-use Rattle.open_gates.specs.declared.gates.OpenGates.{OpenGates}
-use Rattle.open_gates.specs.Open.{open_in}
-use Rattle.trail_search.specs.Filling.{filled_gates}
 use Rattle.trail_pools.specs.declared.pools.Pools.{Pools}
 use Rattle.trail_pools.specs.declared.state.PoolState.{PoolState}
 use Rattle.trail_pools.specs.Leveled.{levels_of, pools_of}
@@ -20,31 +17,30 @@ use Rattle.pool_log.specs.Text.{pool_text}
 use Rattle.pool_lines.specs.Lines.{line_of}
 use Rattle.pool_check.specs.Stepping.{steps_of}
 use Rattle.pool_certificate.specs.Accepted.{lemmas_of}
-
--- the gates that a search of trail_search leaves open
-abbrev pub opened_of : Fingers → List NetNo → OpenGates
-opened_of f order = open_in f (filled_gates f order) order
+use Rattle.pool_trails.specs.declared.opening.Opening.{Opening}
+use Rattle.pool_trails.specs.Opening.{fill_by, opened_of}
 
 -- A search along the order found it, with these gates left open: as many gaps as a row can have are asked for.
-abbrev pub IsFoundAlong : Fingers → List NetNo → ℕ → EndProof PoolState → Type 0
-IsFoundAlong f order budget proof =
-    IsEndProof (steps_of f (opened_of f order)) (levels_of f (opened_of f order) order) start 31 budget proof
+abbrev pub IsFoundAlong : Opening → Fingers → List NetNo → ℕ → EndProof PoolState → Type 0
+IsFoundAlong opening f order budget proof =
+    IsEndProof (steps_of f (opened_of opening f order)) (levels_of f (opened_of opening f order) order) start 31 budget
+    proof
 
 abbrev pub line_at : Pools → EndLemma PoolState → PoolLine
 line_at pools lemma = line_of pools lemma.bound lemma.done lemma.state
 
 -- the lines of the lemmas, and no row
-abbrev pub certificate_of : Fingers → List NetNo → List (EndLemma PoolState) → OrderCertificate PoolLine
-certificate_of f order lemmas = record {
-  fill = filled_gates f order;
+abbrev pub certificate_of : Opening → Fingers → List NetNo → List (EndLemma PoolState) → OrderCertificate PoolLine
+certificate_of opening f order lemmas = record {
+  fill = fill_by opening f order;
   order = order;
-  lemmas = map (line_at (pools_of f (opened_of f order))) lemmas;
+  lemmas = map (line_at (pools_of f (opened_of opening f order))) lemmas;
   best = None;
 }
 
 -- No text of at most 2 ^ 30 bytes has the lines of the lemmas; or these list other lemmas.
-abbrev pub AreUnlisted : Fingers → Kinds → List NetNo → List (EndLemma PoolState) → Type 0
-AreUnlisted f k order lemmas =
-    length (pool_text (codes "cell") (certificate_of f order lemmas)) ≤ 1073741824
-    → PoolsFit k (certificate_of f order lemmas)
-    → lemmas_of f (certificate_of f order lemmas) ≡ lemmas → ⊥
+abbrev pub AreUnlisted : Opening → Fingers → Kinds → List NetNo → List (EndLemma PoolState) → Type 0
+AreUnlisted opening f k order lemmas =
+    length (pool_text (codes "cell") (certificate_of opening f order lemmas)) ≤ 1073741824
+    → PoolsFit k (certificate_of opening f order lemmas)
+    → lemmas_of f (certificate_of opening f order lemmas) ≡ lemmas → ⊥

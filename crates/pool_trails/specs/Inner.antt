@@ -6,7 +6,6 @@ use Rattle.row_state.specs.declared.kind.Kinds.{Kinds}
 use Rattle.row_state.specs.Start.{AreKinds, AreSomeKinds}
 use Rattle.bound_log.specs.declared.log.Best.{Best}
 use Rattle.trail_state.specs.Levels.{IsOrder}
-use Rattle.trail_search.specs.Filling.{filled_gates}
 use Rattle.trail_pools.specs.declared.state.PoolState.{PoolState}
 use Rattle.end_lemmas.specs.declared.lemma.EndLemma.{EndLemma}
 use Rattle.end_search.specs.declared.proof.EndProof.{EndProof}
@@ -23,13 +22,15 @@ use Rattle.pool_trails.specs.declared.found.PoolStop.{PoolStop}
 use Rattle.pool_trails.specs.declared.found.PoolStop.TheVariants as stopped
 use Rattle.pool_trails.specs.declared.gates.PoolGates.{PoolGates}
 use Rattle.pool_trails.specs.Ended.{IsSearched}
-use Rattle.pool_trails.specs.Found.{line_at, opened_of}
+use Rattle.pool_trails.specs.Found.{line_at}
+use Rattle.pool_trails.specs.Opening.{fill_by, is_uncrowded, opened_of}
 
--- an order of the gates, those that are filled there, and those that are left open
+-- an order of the gates, those that are filled there, and those that are left open; and whether none is crowded
 pub record ArePoolGates (f : Fingers) (gates : PoolGates) : Type 0 where
   pub is : IsOrder f gates.order
-  pub filled : gates.fill ≡ filled_gates f gates.order
-  pub open_are : gates.opened ≡ opened_of f gates.order
+  pub filled : gates.fill ≡ fill_by gates.opening f gates.order
+  pub open_are : gates.opened ≡ opened_of gates.opening f gates.order
+  pub none_crowded : gates.uncrowded ≡ is_uncrowded f gates.order
 
 -- so it is of a stop that is no lack of memory
 abbrev pub Stops : Type 0 → PoolStop → Type 0
@@ -68,13 +69,14 @@ AreUnlistedAlong k along gates lemmas =
     → PoolsFit k (lined along gates lemmas) → ListAlong along gates lemmas (lined along gates lemmas) → ⊥
 
 -- the certificate of what a search found: it lists no row
-pub record IsPoolProof (f : Fingers) (k : Kinds) (budget : ℕ) (proof : EndProof PoolState)
+pub record IsPoolProof (f : Fingers) (gates : PoolGates) (k : Kinds) (budget : ℕ) (proof : EndProof PoolState)
     (pools : OrderCertificate PoolLine) : Type 0 where
   pub of_fingers : AreKinds f k
   pub some_kinds : AreSomeKinds k
   pub order : IsOrder f pools.order
   pub few_ways : HasFewWays f (open_of f pools) pools.order
-  pub searched : IsSearched f budget pools proof
+  pub searched : IsSearched gates.opening f budget pools proof
+  pub none_crowded : gates.uncrowded ≡ is_uncrowded f pools.order
   pub rowless : pools.best ≡ None
   pub fits : PoolsFit k pools
 

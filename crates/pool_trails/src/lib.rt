@@ -4,7 +4,10 @@
 mod found;
 mod gates;
 mod listed;
+mod opening;
+mod row;
 mod search;
 
 pub use found::{PoolFound, PoolStop};
+pub use opening::Opening;
 pub use search::search_pool_row;

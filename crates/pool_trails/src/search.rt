@@ -4,11 +4,12 @@ ghost use Rattle.trail_check.specs.Justified.{gaps_proved};
 ghost use Rattle.end_search.specs.declared.proof.SearchEnd.TheVariants as ended;
 ghost use Rattle.pool_trails.specs.declared.found.PoolStop.TheVariants as stopped;
 ghost use Rattle.pool_trails.specs.Ended.{IsPoolFound, IsPoolStopped};
-ghost use Rattle.pool_trails.specs.Inner.{IsPoolProof, with_best};
+ghost use Rattle.pool_trails.specs.Inner.{ArePoolGates, IsPoolProof, with_best};
 
-use crate::gates::{along, pool_gates};
+use crate::gates::{PoolGates, along, pool_gates};
 use crate::listed::listed;
-use crate::{PoolFound, PoolStop};
+use crate::row::row_within;
+use crate::{Opening, PoolFound, PoolStop};
 use bound_log::Best;
 use cell_num::{Fingers, Halt};
 use end_search::{EndProof, SearchEnd};
@@ -17,7 +18,6 @@ use pool_search::search_pools;
 use row_state::{Kinds, kinds};
 use std::alloc::Global;
 use trail_pools::PoolState;
-use trail_search::first_row;
 
 /// No row has more gaps.
 const MOST_GAPS: u16 = 31;
@@ -52,22 +52,22 @@ fn is_spent(end: SearchEnd) -> bool
 fn row_of(
     alloc: Global,
     fingers: &Fingers,
+    gates: &PoolGates,
     kinds: &Kinds,
     proof: &EndProof<PoolState>,
     pools: PoolCertificate,
     budget: u64,
 ) -> Result<PoolFound, PoolStop>
     requires fingers { AreFingers fingers.now }
-    requires proof { IsPoolProof fingers.now kinds.now budget proof.now pools }
-    ensures found { IfOk result (λ r. IsPoolFound fingers.now budget r.row r.pools) }
-    ensures stopped { IfErr result (IsPoolStopped fingers.now budget) }
+    requires proof { IsPoolProof fingers.now gates.now kinds.now budget proof.now pools }
+    ensures found { IfOk result (λ r. IsPoolFound gates.now.opening fingers.now budget r.row r.pools) }
+    ensures stopped { IfErr result (IsPoolStopped gates.now.opening fingers.now budget) }
 {
     let proved = gaps_proved(proof.ends);
     if is_spent(proof.end) {
         return Err(PoolStop::Unfinished { pools, proved });
     }
-    let mut left = proof.left;
-    match first_row(alloc, kinds, proved, false, &mut left) {
+    match row_within(alloc, kinds, proved, gates.uncrowded, proof.left) {
         Ok(Some(first)) => Ok(PoolFound {
             row: first.row,
             pools: with_row(pools, first.best),
@@ -78,24 +78,45 @@ fn row_of(
     }
 }
 
-/// The first least arrangement of the fingers, and a certificate with the balances of pools that proves that none has
-/// fewer gaps; or what is proved when the budget is spent. The gates that `search_trails` leaves open are left open.
-/// Lemmas are looked for first, by `search_pools`, then a row of as many gaps as they prove, with the units that are
-/// left. It ends without a row where a gate has too many ways even so, or where each arrangement has more gaps.
 #[tactic(auto, using(crate::proofs::Rules::search_rules))]
-pub fn search_pool_row(alloc: Global, fingers: &Fingers, budget: u64) -> Result<PoolFound, PoolStop>
-    requires { AreFingers fingers.now }
-    ensures found { IfOk result (λ r. IsPoolFound fingers.now budget r.row r.pools) }
-    ensures stopped { IfErr result (IsPoolStopped fingers.now budget) }
+fn search_along(
+    alloc: Global,
+    fingers: &Fingers,
+    gates: &PoolGates,
+    budget: u64,
+) -> Result<PoolFound, PoolStop>
+    requires fingers { AreFingers fingers.now }
+    requires gates { ArePoolGates fingers.now gates.now }
+    ensures found { IfOk result (λ r. IsPoolFound gates.now.opening fingers.now budget r.row r.pools) }
+    ensures stopped { IfErr result (IsPoolStopped gates.now.opening fingers.now budget) }
 {
     let kinds = kinds(alloc, fingers)?;
-    let gates = pool_gates(alloc, fingers)?;
-    let along = along(alloc, fingers, &gates)?;
+    let along = along(alloc, fingers, gates)?;
     let order = gates.order.as_slice();
     let proof = search_pools(alloc, fingers, &gates.opened, order, MOST_GAPS, budget)?;
-    let listed = listed(alloc, &kinds, &along, &gates, proof.lemmas.as_slice())?;
+    let listed = listed(alloc, &kinds, &along, gates, proof.lemmas.as_slice())?;
     let Some(pools) = listed else {
         return Err(PoolStop::Crowded);
     };
-    row_of(alloc, fingers, &kinds, &proof, pools, budget)
+    row_of(alloc, fingers, gates, &kinds, &proof, pools, budget)
+}
+
+/// The first least arrangement of the fingers, and a certificate with the balances of pools that proves that none has
+/// fewer gaps; or what is proved when the budget is spent. Half columns stay open as `opening` says. Lemmas are looked
+/// for first, by `search_pools`, then a row of as many gaps as they prove, with the units that are left. Where no gate
+/// has too many ways to be filled, half of these go for a search that tries no trails at the states of a row; where it
+/// spends them, the others go for a search that does. Else all go for the first. It ends without a row where a gate has
+/// too many ways even so, or where each arrangement has more gaps.
+pub fn search_pool_row(
+    alloc: Global,
+    fingers: &Fingers,
+    opening: Opening,
+    budget: u64,
+) -> Result<PoolFound, PoolStop>
+    requires { AreFingers fingers.now }
+    ensures found { IfOk result (λ r. IsPoolFound opening fingers.now budget r.row r.pools) }
+    ensures stopped { IfErr result (IsPoolStopped opening fingers.now budget) }
+{
+    let gates = pool_gates(alloc, fingers, opening)?;
+    search_along(alloc, fingers, &gates, budget)
 }

@@ -1,15 +1,20 @@
 -- What the search of a version found or proved, as what a search of both does.
-use Rattle.std.specs.Prelude.{ℕ, List}
+use Rattle.std.specs.Prelude.{ℕ, ◌≡◌, ◌||◌, Bool, true, false, cond, List, [], ◌∷◌, map}
+use Rattle.std.specs.List.{filter, list_any, range_with_len}
+use Rattle.std.proofs.Common.{refl, ap, inl, inr}
 use Rattle.cell_num.specs.declared.finger.Fingers.{Fingers}
+use Rattle.cell_num.specs.declared.net.NetNo.{NetNo}
 use Rattle.row_model.specs.declared.column.Column.{Column}
 use Rattle.log_check.specs.Accepted.{WithKinds}
 use Rattle.trail_log.specs.declared.trails.TrailCertificate.{TrailCertificate}
 use Rattle.order_log.specs.declared.certificate.OrderCertificate.{OrderCertificate}
 use Rattle.pool_log.specs.declared.lemma.PoolLine.{PoolLine}
-use Rattle.trail_search.specs.Ended.{IsCertified, IsTrailFound, IsTrailSpent}
+use Rattle.trail_search.specs.Ended.{IsCertified, IsCrowded, IsTrailFound, IsTrailSpent}
+use Rattle.trail_search.specs.Filling.{is_uneven, uneven_gates}
+use Rattle.pool_trails.specs.declared.opening.Opening.TheVariants.{Crowded, Longer}
 use Rattle.pool_trails.specs.Ended.{IsPoolCertified, IsPoolFound, IsPoolSpent}
 use Rattle.trail_either.specs.declared.evidence.TrailEvidence.TheVariants.{Filled, Pools}
-use Rattle.trail_either.specs.Ended.{EndsAtGate, IsEitherCertified, IsEitherFound, IsEitherSpent}
+use Rattle.trail_either.specs.Ended.{EndsPools, IsEitherCertified, IsEitherFound, IsEitherSpent}
 
 filled_certified : (f : Fingers) (row : List Column) (trails : TrailCertificate) → WithKinds f (λ k. IsCertified k f row trails) → WithKinds f (λ k. IsEitherCertified k f row (Filled trails))
 filled_certified f row trails (k, of_k, some_k, is) =
@@ -19,14 +24,55 @@ pools_certified : (f : Fingers) (row : List Column) (pools : OrderCertificate Po
 pools_certified f row pools (k, of_k, some_k, is) =
     (k, of_k, some_k, record { accepted = is.accepted; few_ways = is.few_ways; lists = is.lists; fits = is.fits })
 
-pub filled_found : (f : Fingers) (budget : ℕ) (row : List Column) (trails : TrailCertificate) → IsTrailFound f budget row trails → IsEitherFound f budget row (Filled trails)
-filled_found f budget row trails is = record { first = is.first; certified = filled_certified f row trails is.certified; within = is }
+module _ (f : Fingers) (budget : ℕ) (row : List Column) where
+  pub filled_found : (trails : TrailCertificate) → EndsPools f → IsTrailFound f budget row trails
+      → IsEitherFound f budget row (Filled trails)
+  filled_found trails ends is =
+      record { first = is.first; certified = filled_certified f row trails is.certified; within = (ends, is) }
 
-pub pools_found : (f : Fingers) (budget : ℕ) (row : List Column) (pools : OrderCertificate PoolLine) → EndsAtGate f → IsPoolFound f budget row pools → IsEitherFound f budget row (Pools pools)
-pools_found f budget row pools gate is = record { first = is.first; certified = pools_certified f row pools is.certified; within = (gate, is) }
+  pub longer_found : (pools : OrderCertificate PoolLine) → IsPoolFound Longer f budget row pools
+      → IsEitherFound f budget row (Pools pools)
+  longer_found pools is =
+      record { first = is.first; certified = pools_certified f row pools is.certified; within = inl is }
 
-pub filled_spent : (f : Fingers) (budget : ℕ) (trails : TrailCertificate) (proved : ℕ) → IsTrailSpent f budget trails proved → IsEitherSpent f budget (Filled trails) proved
-filled_spent f budget trails proved is = record { lists_none = is.lists_none; low = is.low; fits = is.fits; within = is }
+  pub crowded_found : (pools : OrderCertificate PoolLine) (gate : NetNo) → EndsPools f → IsCrowded f gate
+      → IsPoolFound Crowded f budget row pools → IsEitherFound f budget row (Pools pools)
+  crowded_found pools gate ends crowded is = record {
+    first = is.first;
+    certified = pools_certified f row pools is.certified;
+    within = inr (ends, (gate, crowded), is);
+  }
 
-pub pools_spent : (f : Fingers) (budget : ℕ) (pools : OrderCertificate PoolLine) (proved : ℕ) → EndsAtGate f → IsPoolSpent f budget pools proved → IsEitherSpent f budget (Pools pools) proved
-pools_spent f budget pools proved gate is = record { lists_none = is.lists_none; low = is.low; fits = is.fits; within = (gate, is) }
+module _ (f : Fingers) (budget proved : ℕ) where
+  pub filled_spent : (trails : TrailCertificate) → EndsPools f → IsTrailSpent f budget trails proved
+      → IsEitherSpent f budget (Filled trails) proved
+  filled_spent trails ends is =
+      record { lists_none = is.lists_none; low = is.low; fits = is.fits; within = (ends, is) }
+
+  pub longer_spent : (pools : OrderCertificate PoolLine) → IsPoolSpent Longer f budget pools proved
+      → IsEitherSpent f budget (Pools pools) proved
+  longer_spent pools is = record { lists_none = is.lists_none; low = is.low; fits = is.fits; within = inl is }
+
+  pub crowded_spent : (pools : OrderCertificate PoolLine) (gate : NetNo) → EndsPools f → IsCrowded f gate
+      → IsPoolSpent Crowded f budget pools proved → IsEitherSpent f budget (Pools pools) proved
+  crowded_spent pools gate ends crowded is = record {
+    lists_none = is.lists_none;
+    low = is.low;
+    fits = is.fits;
+    within = inr (ends, (gate, crowded), is);
+  }
+
+module _ {X : Type 0} (p : X → Bool) where
+  none_at : (b : Bool) (x : X) (xs : List X) → (b || list_any p xs) ≡ false
+      → (list_any p xs ≡ false → filter p xs ≡ []) → cond b (x ∷ filter p xs) (filter p xs) ≡ []
+  none_at true x xs none rest = absurd cc
+  none_at false x xs none rest = rest none
+
+  none_filtered : (xs : List X) → list_any p xs ≡ false → filter p xs ≡ []
+  none_filtered [] none = refl
+  none_filtered (x ∷ xs) none = none_at (p x) x xs none (none_filtered xs)
+
+-- no gate has half columns
+pub none_uneven : (f : Fingers) → list_any (is_uneven f) (range_with_len 0 f.nets) ≡ false → uneven_gates f ≡ []
+none_uneven f none =
+    ap (map (λ (g : ℕ). record { 0 = g })) (none_filtered (is_uneven f) (range_with_len 0 f.nets) none)

@@ -1,5 +1,5 @@
 -- How a search ended: with the first least row and its certificate, or with what is proved without a row.
-use Rattle.std.specs.Prelude.{ℕ, ◌≡◌, List, IsNone}
+use Rattle.std.specs.Prelude.{ℕ, ◌≡◌, ◌⊎◌, List, [], IsNone}
 use Rattle.cell_num.specs.declared.finger.Fingers.{Fingers}
 use Rattle.cell_num.specs.declared.net.NetNo.{NetNo}
 use Rattle.row_model.specs.declared.column.Column.{Column}
@@ -9,6 +9,8 @@ use Rattle.log_check.specs.Accepted.{Lists, WithKinds}
 use Rattle.row_search.specs.First.{IsFirstLeast}
 use Rattle.trail_check.specs.Accepted.{IsLow}
 use Rattle.trail_search.specs.Ended.{IsCrowded, IsTrailFound, IsTrailSpent}
+use Rattle.trail_search.specs.Filling.{uneven_gates}
+use Rattle.pool_trails.specs.declared.opening.Opening.TheVariants.{Crowded, Longer}
 use Rattle.pool_trails.specs.Ended.{IsPoolCrowded, IsPoolFound, IsPoolSpent}
 use Rattle.trail_either.specs.declared.evidence.TrailEvidence.{TrailEvidence}
 use Rattle.trail_either.specs.declared.evidence.TrailEvidence.TheVariants.{Filled, Pools}
@@ -26,14 +28,20 @@ pub record IsEitherCertified (k : Kinds) (f : Fingers) (row : List Column) (evid
   pub lists : Lists k (best_in evidence) (λ listed. listed ≡ row)
   pub fits : EitherFits k evidence
 
+-- No gate has half columns; or a search that leaves open those of one row ends without a row, and with units left.
+abbrev pub EndsPools : Fingers → Type 0
+EndsPools f = (uneven_gates f ≡ []) ⊎ IsPoolCrowded Longer f
+
 -- a search for a certificate of version 1 ends at some gate, without a row
 abbrev pub EndsAtGate : Fingers → Type 0
 EndsAtGate f = (gate : NetNo) × IsCrowded f gate
 
--- a search within the budget found it; pools are tried where none of version 1 is found at a gate
+-- A search within the budget found it. One for version 1 comes where the first one with pools ends; where it ends at a
+-- gate, the second one with pools comes.
 abbrev pub IsFoundWithin : Fingers → ℕ → List Column → TrailEvidence → Type 0
-IsFoundWithin f budget row (Filled trails) = IsTrailFound f budget row trails
-IsFoundWithin f budget row (Pools pools) = EndsAtGate f × IsPoolFound f budget row pools
+IsFoundWithin f budget row (Filled trails) = EndsPools f × IsTrailFound f budget row trails
+IsFoundWithin f budget row (Pools pools) =
+    IsPoolFound Longer f budget row pools ⊎ (EndsPools f × EndsAtGate f × IsPoolFound Crowded f budget row pools)
 
 -- the row is the first least one, and is certified by what a search found
 pub record IsEitherFound (f : Fingers) (budget : ℕ) (row : List Column) (evidence : TrailEvidence) : Type 0 where
@@ -41,10 +49,11 @@ pub record IsEitherFound (f : Fingers) (budget : ℕ) (row : List Column) (evide
   pub certified : WithKinds f (λ k. IsEitherCertified k f row evidence)
   pub within : IsFoundWithin f budget row evidence
 
--- the budget was spent so by the search
+-- the budget was spent so by one of these searches
 abbrev pub IsSpentWithin : Fingers → ℕ → TrailEvidence → ℕ → Type 0
-IsSpentWithin f budget (Filled trails) proved = IsTrailSpent f budget trails proved
-IsSpentWithin f budget (Pools pools) proved = EndsAtGate f × IsPoolSpent f budget pools proved
+IsSpentWithin f budget (Filled trails) proved = EndsPools f × IsTrailSpent f budget trails proved
+IsSpentWithin f budget (Pools pools) proved =
+    IsPoolSpent Longer f budget pools proved ⊎ (EndsPools f × EndsAtGate f × IsPoolSpent Crowded f budget pools proved)
 
 -- The budget is spent. The certificate lists no row, and its lemmas prove that no arrangement has fewer gaps.
 pub record IsEitherSpent (f : Fingers) (budget : ℕ) (evidence : TrailEvidence) (proved : ℕ) : Type 0 where
@@ -53,10 +62,11 @@ pub record IsEitherSpent (f : Fingers) (budget : ℕ) (evidence : TrailEvidence)
   pub fits : WithKinds f (λ k. EitherFits k evidence)
   pub within : IsSpentWithin f budget evidence proved
 
--- A search for a certificate of version 1 ends at the gate, and one with pools ends without a row, too.
+-- A search for a certificate of version 1 ends at the gate. Those with pools before and after it end without a row, too.
 pub record IsEitherCrowded (f : Fingers) (gate : NetNo) : Type 0 where
+  pub ends : EndsPools f
   pub filled : IsCrowded f gate
-  pub pools : IsPoolCrowded f
+  pub pools : IsPoolCrowded Crowded f
 
 abbrev pub IsFound : Fingers → ℕ → EitherFound → Type 0
 IsFound f budget found = IsEitherFound f budget found.row found.evidence

@@ -1,27 +1,44 @@
-ghost use Rattle.std.specs.Prelude.{IfErr, IfOk};
+ghost use Rattle.std.specs.Prelude.{◌≡◌, IfErr, IfOk};
+ghost use Rattle.std.specs.List.{list_any, range_with_len};
 ghost use Rattle.cell_num.specs.Fingers.{AreFingers};
 ghost use Rattle.trail_search.specs.Ended.{IsCrowded};
-ghost use Rattle.trail_either.specs.Ended.{IsFound, Stops};
+ghost use Rattle.trail_search.specs.Filling.{is_uneven};
+ghost use Rattle.trail_either.specs.Ended.{EndsPools, IsFound, Stops};
 
 use crate::{EitherFound, EitherStop, TrailEvidence};
 use cell_num::{Fingers, NetNo};
-use pool_trails::{PoolStop, search_pool_row};
+use pool_trails::{Opening, PoolStop, search_pool_row};
 use std::alloc::Global;
 use trail_search::{TrailStop, search_trails};
+use trail_state::count_on;
 
-// With pools, after a search that ended at the gate.
-fn search_with_pools(
+fn is_uneven(fingers: &Fingers, gate: u32) -> bool
+    ensures { result ≡ is_uneven fingers.now gate }
+{
+    count_on(fingers.p.as_slice(), gate) != count_on(fingers.n.as_slice(), gate)
+}
+
+fn has_half_columns(fingers: &Fingers) -> bool
+    ensures { result ≡ list_any (is_uneven fingers.now) (range_with_len 0 fingers.now.nets) }
+{
+    (0..fingers.nets).any(|gate| is_uneven(fingers, gate))
+}
+
+// With pools of the gates that have too many ways alone, after a search that ended at the gate.
+#[tactic(auto, using(crate::proofs::Ended::crowded_found, crate::proofs::Ended::crowded_spent))]
+fn search_crowded(
     alloc: Global,
     fingers: &Fingers,
     budget: u64,
     gate: NetNo,
 ) -> Result<EitherFound, EitherStop>
     requires fingers { AreFingers fingers.now }
+    requires ends { EndsPools fingers.now }
     requires gate { IsCrowded fingers.now gate }
     ensures found { IfOk result (IsFound fingers.now budget) }
     ensures stopped { IfErr result (Stops fingers.now budget) }
 {
-    match search_pool_row(alloc, fingers, budget) {
+    match search_pool_row(alloc, fingers, Opening::Crowded, budget) {
         Ok(found) => Ok(EitherFound {
             row: found.row,
             evidence: TrailEvidence::Pools(found.pools),
@@ -35,15 +52,15 @@ fn search_with_pools(
     }
 }
 
-/// The first least arrangement of the fingers, and a certificate by trails that proves that none has fewer gaps; or
-/// what is proved when the budget is spent. By `search_trails`; and only where that ends at a gate, by
-/// `search_pool_row`, with the same budget once more. Where this finds no row either, that gate is told.
-pub fn search_either(
+// For a certificate of version 1, where no search with pools finds a row first.
+#[tactic(auto, using(crate::proofs::Ended::filled_found, crate::proofs::Ended::filled_spent))]
+fn search_filled(
     alloc: Global,
     fingers: &Fingers,
     budget: u64,
 ) -> Result<EitherFound, EitherStop>
-    requires { AreFingers fingers.now }
+    requires fingers { AreFingers fingers.now }
+    requires ends { EndsPools fingers.now }
     ensures found { IfOk result (IsFound fingers.now budget) }
     ensures stopped { IfErr result (Stops fingers.now budget) }
 {
@@ -56,7 +73,40 @@ pub fn search_either(
             evidence: TrailEvidence::Filled(trails),
             proved,
         }),
-        Err(TrailStop::Choices { gate }) => search_with_pools(alloc, fingers, budget, gate),
+        Err(TrailStop::Choices { gate }) => search_crowded(alloc, fingers, budget, gate),
         Err(TrailStop::NoMemory) => Err(EitherStop::NoMemory),
+    }
+}
+
+/// The first least arrangement of the fingers, and a certificate by trails that proves that none has fewer gaps; or
+/// what is proved when the budget is spent. Where some gate has half columns, those of one row stay open first, by
+/// `search_pool_row`: that mostly proves as much, in a small part of the time. Where no gate has any, or that search
+/// ends without a row and with units left, `search_trails` is next. Where it ends at a gate, `search_pool_row` leaves
+/// open the gates that have too many ways to be filled. Each search has the whole budget. Where none finds a row, the
+/// gate is told at which that of version 1 ended.
+#[tactic(auto, using(crate::proofs::Ended::longer_found, crate::proofs::Ended::longer_spent))]
+pub fn search_either(
+    alloc: Global,
+    fingers: &Fingers,
+    budget: u64,
+) -> Result<EitherFound, EitherStop>
+    requires { AreFingers fingers.now }
+    ensures found { IfOk result (IsFound fingers.now budget) }
+    ensures stopped { IfErr result (Stops fingers.now budget) }
+{
+    if !has_half_columns(fingers) {
+        return search_filled(alloc, fingers, budget);
+    }
+    match search_pool_row(alloc, fingers, Opening::Longer, budget) {
+        Ok(found) => Ok(EitherFound {
+            row: found.row,
+            evidence: TrailEvidence::Pools(found.pools),
+        }),
+        Err(PoolStop::Unfinished { pools, proved }) => Err(EitherStop::Unfinished {
+            evidence: TrailEvidence::Pools(pools),
+            proved,
+        }),
+        Err(PoolStop::Crowded) => search_filled(alloc, fingers, budget),
+        Err(PoolStop::NoMemory) => Err(EitherStop::NoMemory),
     }
 }

@@ -1,24 +1,16 @@
-use Rattle.std.proofs.Common.{inr}
-use Rattle.pool_log.specs.Fits.{PoolsFit}
-use Rattle.pool_trails.specs.Inner.{AreUnlistedAlong, ListAlong}
-use Rattle.pool_trails.proofs.Searched.{proof_by, unlisted_by}
+use Rattle.std.proofs.Common.{IfErr, IfOk, subst}
+use Rattle.pool_trails.specs.declared.opening.Opening.{Opening}
+use Rattle.pool_trails.specs.Ended.{IsPoolFound, IsPoolStopped}
 use Rattle.pool_trails.proofs.search.search_pool_row.Goals as goal
 
-pub returns-in_default-clause-stopped : goal.returns-in_default-clause-stopped
-returns-in_default-clause-stopped c =
-    let none : AreUnlistedAlong c.in_ok-kinds.kinds c.in_ok-along.along c.in_ok-gates.gates c.as_slice.result.now =
-    rw c.in_default.is at c.in_ok-listed.ensures.none in
-    inr (inr (unlisted_by c.args.fingers.now c.in_ok-gates.gates c.in_ok-gates.ensures c.in_ok-kinds.kinds
-    c.in_ok-along.along c.args.budget c.in_ok-proof.proof c.as_slice-order.result.now c.as_slice.result.now
-    c.as_slice-order.ensures c.as_slice.ensures c.in_ok-along.ensures.along c.in_ok-proof.ensures.proof
-    c.in_ok-kinds.ensures.kinds c.in_ok-kinds.ensures.sound none))
+pub returns-clause-found : goal.returns-clause-found
+returns-clause-found c =
+    subst (λ (opening : Opening). IfOk c.search_along.result (λ r.
+    IsPoolFound opening c.args.fingers.now c.args.budget r.row r.pools)) c.in_ok-gates.ensures.opening
+    c.search_along.ensures.found
 
-pub row_of-requires-clause-proof : goal.row_of-requires-clause-proof
-row_of-requires-clause-proof c =
-    let fits : PoolsFit c.in_ok-kinds.kinds c.in-Some.pools = rw c.in-Some.is at c.in_ok-listed.ensures.fits in
-    let listed : ListAlong c.in_ok-along.along c.in_ok-gates.gates c.as_slice.result.now c.in-Some.pools =
-    rw c.in-Some.is at c.in_ok-listed.ensures.listed in
-    proof_by c.args.fingers.now c.in_ok-gates.gates c.in_ok-gates.ensures c.in_ok-kinds.kinds c.in_ok-along.along
-    c.args.budget c.in_ok-proof.proof c.as_slice-order.result.now c.as_slice.result.now c.as_slice-order.ensures
-    c.as_slice.ensures c.in_ok-along.ensures.along c.in_ok-proof.ensures.proof c.in_ok-kinds.ensures.kinds
-    c.in_ok-kinds.ensures.sound c.in-Some.pools fits listed
+pub returns-clause-stopped : goal.returns-clause-stopped
+returns-clause-stopped c =
+    subst (λ (opening : Opening). IfErr c.search_along.result
+    (IsPoolStopped opening c.args.fingers.now c.args.budget)) c.in_ok-gates.ensures.opening
+    c.search_along.ensures.stopped
