@@ -40,15 +40,17 @@ use Rattle.pool_check.proofs.Low.{accepted_low}
 use Rattle.pool_certificate.specs.Accepted.{lemmas_of, open_of}
 use Rattle.pool_trails.specs.declared.gates.PoolGates.{PoolGates}
 use Rattle.pool_trails.specs.declared.opening.Opening.{Opening}
-use Rattle.pool_trails.specs.Ended.{IsPoolCertified, IsPoolFound, IsPooledInVain, IsPoolSpent, WentForRow, first_units}
+use Rattle.pool_trails.specs.Ended.{IsPoolCertified, IsPoolFound, IsPooledInVain, IsPoolSpent, WentForRow}
 use Rattle.pool_trails.specs.Inner.{IsPoolProof, with_best}
 use Rattle.pool_trails.specs.Opening.{is_uncrowded, opened_of}
 
 -- Where not as many gaps were asked for as are proved, and units are left, no lemmas prove more.
 most_by : (opening : Opening) (f : Fingers) (order : List NetNo) (ends left : ℕ) (end : SearchEnd)
-    → EndsAs (steps_of f (opened_of opening f order)) (levels_of f (opened_of opening f order) order) start 31 ends left end
+    → EndsAs (steps_of f (opened_of opening f order)) (levels_of f (opened_of opening f order) order) start 31 ends left
+    end
     → (end ≡ ended.Spent → ⊥) → gaps_proved ends < 31
-    → HasFewer (steps_of f (opened_of opening f order)) (levels_of f (opened_of opening f order) order) start (next_need ends)
+    → HasFewer (steps_of f (opened_of opening f order)) (levels_of f (opened_of opening f order) order) start
+    (next_need ends)
 most_by opening f order ends left ended.Exact h whole few = h
 most_by opening f order ends left ended.Asked h whole few = absurd (omega (arith, h, few))
 most_by opening f order ends left ended.Spent h whole few = absurd (whole refl)
@@ -147,7 +149,8 @@ module _ (f : Fingers) (gates : PoolGates) (k : Kinds) (budget : ℕ) (proof : E
   ))
 
   -- Every arrangement has more gaps. So not as many as a row can have were proved, and no lemmas prove more.
-  in_vain_at : (proof.end ≡ ended.Spent → ⊥) → Need k (start_of k) (gaps_proved proof.ends + 1) → IsPooledInVain gates.opening f
+  in_vain_at : (proof.end ≡ ended.Spent → ⊥) → Need k (start_of k) (gaps_proved proof.ends + 1) →
+      IsPooledInVain gates.opening f
   in_vain_at whole need = record {
     order = pools.order;
     is = p.order;

@@ -1,6 +1,5 @@
 -- What the units for a row went for, in one search and in two.
-use Rattle.std.specs.Prelude.{ℕ, ◌≡◌, ◌-◌, ◌/◌, ◌≤◌, Bool, true, false, IsTrue, Result, Ok, Err, IfErr}
-use Rattle.std.specs.Prelude.{if◌then◌else◌}
+use Rattle.std.specs.Prelude.{ℕ, ◌≡◌, ◌-◌, ◌/◌, Bool, true, false, Result, Ok, Err, IfErr}
 use Rattle.std.proofs.Common.{refl, sym, subst, arith}
 use Rattle.cell_num.specs.declared.halt.Halt.{Halt}
 use Rattle.cell_num.specs.declared.halt.Halt.TheVariants as halted
@@ -8,7 +7,7 @@ use Rattle.row_state.specs.declared.kind.Kinds.{Kinds}
 use Rattle.trail_search.specs.Searched.{AreSearched}
 use Rattle.trail_search.specs.Visit.{Halts, IfSpent}
 use Rattle.trail_search.proofs.Spent.{searched_less}
-use Rattle.pool_trails.specs.Ended.{WentForRow, first_units}
+use Rattle.pool_trails.specs.Ended.{WentForRow}
 
 module _ (k : Kinds) (most others : ℕ) where
   spent_all : (why : Halt) (units left : ℕ) → Halts left why → IfSpent why (AreSearched k most (units - left) others)

@@ -90,7 +90,8 @@ module _ (f : Fingers) (gates : PoolGates) (g : ArePoolGates f gates) where
           open_same
           (subst (λ (gs : List NetNo). lemmas_along (pools_of f (opened_of gates.opening f gates.order))
           (levels_of f (opened_of gates.opening f gates.order) gs) pools.lemmas ≡ proof.lemmas) (sym l.order)
-          (subst (λ (ls : List PoolLevel). lemmas_along (pools_of f (opened_of gates.opening f gates.order)) ls pools.lemmas
+          (subst (λ (ls : List PoolLevel). lemmas_along (pools_of f (opened_of gates.opening f gates.order)) ls
+          pools.lemmas
           ≡ proof.lemmas) a.levels
           (subst (λ (ps : Pools). lemmas_along ps along.levels pools.lemmas ≡ proof.lemmas) a.pools l.listed)))
 
@@ -104,7 +105,8 @@ module _ (f : Fingers) (gates : PoolGates) (g : ArePoolGates f gates) where
       few_ways : HasFewWays f (open_of f pools) pools.order
       few_ways =
           subst (λ (o : OpenGates). HasFewWays f o pools.order) open_same
-          (subst (λ (gs : List NetNo). HasFewWays f (opened_of gates.opening f gates.order) gs) (sym l.order) a.few_ways)
+          (subst (λ (gs : List NetNo). HasFewWays f (opened_of gates.opening f gates.order) gs) (sym l.order)
+          a.few_ways)
 
       is_proof : AreKinds f k → AreSomeKinds k → PoolsFit k pools → IsPoolProof f gates k budget proof pools
       is_proof of_f kinds fits = record {

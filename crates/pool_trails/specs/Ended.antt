@@ -49,11 +49,11 @@ pub record IsSearched (opening : Opening) (f : Fingers) (budget : ℕ) (pools : 
 -- The row is the first least one, and is certified. It has as many gaps as the lemmas prove that were found.
 pub record IsPoolFound (opening : Opening) (f : Fingers) (budget : ℕ) (row : List Column)
     (pools : OrderCertificate PoolLine) : Type 0 where
-    pub first : IsFirstLeast f row
-    pub certified : WithKinds f (λ k. IsPoolCertified k f row pools)
-    pub proof : EndProof PoolState
-    pub searched : IsSearched opening f budget pools proof
-    pub gaps : gaps_of row ≡ gaps_proved proof.ends
+  pub first : IsFirstLeast f row
+  pub certified : WithKinds f (λ k. IsPoolCertified k f row pools)
+  pub proof : EndProof PoolState
+  pub searched : IsSearched opening f budget pools proof
+  pub gaps : gaps_of row ≡ gaps_proved proof.ends
 
 -- the units of the first search for a row: half of them, where there is a second one
 abbrev pub first_units : Bool → ℕ → ℕ

@@ -1,5 +1,5 @@
 -- Which gates with half columns a search leaves open, and which it fills.
-use Rattle.std.specs.Prelude.{ℕ, ◌==◌, Bool, not, if◌then◌else◌, ltb, List, length}
+use Rattle.std.specs.Prelude.{◌==◌, Bool, not, if◌then◌else◌, ltb, List, length}
 use Rattle.std.specs.List.{filter}
 use Rattle.cell_num.specs.declared.net.NetNo.{NetNo}
 use Rattle.cell_num.specs.declared.finger.Fingers.{Fingers}

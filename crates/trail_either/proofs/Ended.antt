@@ -16,11 +16,13 @@ use Rattle.pool_trails.specs.Ended.{IsPoolCertified, IsPoolFound, IsPoolSpent}
 use Rattle.trail_either.specs.declared.evidence.TrailEvidence.TheVariants.{Filled, Pools}
 use Rattle.trail_either.specs.Ended.{EndsPools, IsEitherCertified, IsEitherFound, IsEitherSpent}
 
-filled_certified : (f : Fingers) (row : List Column) (trails : TrailCertificate) → WithKinds f (λ k. IsCertified k f row trails) → WithKinds f (λ k. IsEitherCertified k f row (Filled trails))
+filled_certified : (f : Fingers) (row : List Column) (trails : TrailCertificate) →
+    WithKinds f (λ k. IsCertified k f row trails) → WithKinds f (λ k. IsEitherCertified k f row (Filled trails))
 filled_certified f row trails (k, of_k, some_k, is) =
     (k, of_k, some_k, record { accepted = is.accepted; few_ways = is.few_ways; lists = is.lists; fits = is.fits })
 
-pools_certified : (f : Fingers) (row : List Column) (pools : OrderCertificate PoolLine) → WithKinds f (λ k. IsPoolCertified k f row pools) → WithKinds f (λ k. IsEitherCertified k f row (Pools pools))
+pools_certified : (f : Fingers) (row : List Column) (pools : OrderCertificate PoolLine) →
+    WithKinds f (λ k. IsPoolCertified k f row pools) → WithKinds f (λ k. IsEitherCertified k f row (Pools pools))
 pools_certified f row pools (k, of_k, some_k, is) =
     (k, of_k, some_k, record { accepted = is.accepted; few_ways = is.few_ways; lists = is.lists; fits = is.fits })
 

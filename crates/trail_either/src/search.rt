@@ -25,7 +25,7 @@ fn has_half_columns(fingers: &Fingers) -> bool
 }
 
 // With pools of the gates that have too many ways alone, after a search that ended at the gate.
-#[tactic(auto, using(crate::proofs::Ended::crowded_found, crate::proofs::Ended::crowded_spent))]
+#[tactic(auto, using(crate::proofs::Ended::crowded_spent))]
 fn search_crowded(
     alloc: Global,
     fingers: &Fingers,

@@ -1,4 +1,4 @@
-use Rattle.std.proofs.Common.{◌≡◌, ◌+◌, ◌-◌, true, false, inl, inr}
+use Rattle.std.proofs.Common.{◌≡◌, ◌+◌, true, false, inl, inr}
 use Rattle.row_state.specs.Completion.{Need}
 use Rattle.row_state.specs.Start.{columns_left, start_of}
 use Rattle.trail_search.specs.First.{IsFirstRow}
@@ -9,12 +9,14 @@ use Rattle.pool_trails.proofs.search.row_of.Goals as goal
 
 pub returns-then-is_spent-clause-stopped : goal.returns-then-is_spent-clause-stopped
 returns-then-is_spent-clause-stopped c =
-    lemmas_spent c.args.fingers.now c.args.gates.now c.args.kinds.now c.args.budget c.args.proof.now c.args.pools c.requires.fingers
+    lemmas_spent c.args.fingers.now c.args.gates.now c.args.kinds.now c.args.budget c.args.proof.now c.args.pools
+    c.requires.fingers
     c.requires.proof c.gaps_proved-proved.result c.gaps_proved-proved.ensures (c.is_spent.ensures.0 c.if-is_spent.true)
 
 pub row_within-requires : goal.row_within-requires
 row_within-requires c = record {
-  few = few_proved c.args.fingers.now c.args.gates.now c.args.kinds.now c.args.budget c.args.proof.now c.args.pools c.requires.fingers
+  few = few_proved c.args.fingers.now c.args.gates.now c.args.kinds.now c.args.budget c.args.proof.now c.args.pools
+      c.requires.fingers
       c.requires.proof c.gaps_proved-proved.result c.gaps_proved-proved.ensures;
 }
 
@@ -22,7 +24,8 @@ pub returns-in-Ok-Some-clause-found : goal.returns-in-Ok-Some-clause-found
 returns-in-Ok-Some-clause-found c =
     let first : IsFirstRow c.args.kinds.now c.gaps_proved-proved.result c.in-Ok-Some.first =
     rw c.in-Ok-Some.field-0-is at c.in-Ok-Some.ensures.found in
-    found_is c.args.fingers.now c.args.gates.now c.args.kinds.now c.args.budget c.args.proof.now c.args.pools c.requires.fingers
+    found_is c.args.fingers.now c.args.gates.now c.args.kinds.now c.args.budget c.args.proof.now c.args.pools
+    c.requires.fingers
     c.requires.proof c.gaps_proved-proved.result c.gaps_proved-proved.ensures c.in-Ok-Some.first c.with_row.result first
     c.with_row.ensures
 
