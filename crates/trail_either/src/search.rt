@@ -24,7 +24,7 @@ fn has_half_columns(fingers: &Fingers) -> bool
     (0..fingers.nets).any(|gate| is_uneven(fingers, gate))
 }
 
-// With pools of the gates that have too many ways alone, after a search that ended at the gate.
+// With pools of those gates alone that have too many ways to be filled, after a search that ended at the gate.
 #[tactic(auto, using(crate::proofs::Ended::crowded_spent))]
 fn search_crowded(
     alloc: Global,
@@ -52,13 +52,9 @@ fn search_crowded(
     }
 }
 
-// For a certificate of version 1, where no search with pools finds a row first.
+// For a certificate of version 1, where no gate has half columns, or the first search with pools ends without a row.
 #[tactic(auto, using(crate::proofs::Ended::filled_found, crate::proofs::Ended::filled_spent))]
-fn search_filled(
-    alloc: Global,
-    fingers: &Fingers,
-    budget: u64,
-) -> Result<EitherFound, EitherStop>
+fn search_filled(alloc: Global, fingers: &Fingers, budget: u64) -> Result<EitherFound, EitherStop>
     requires fingers { AreFingers fingers.now }
     requires ends { EndsPools fingers.now }
     ensures found { IfOk result (IsFound fingers.now budget) }
@@ -79,11 +75,10 @@ fn search_filled(
 }
 
 /// The first least arrangement of the fingers, and a certificate by trails that proves that none has fewer gaps; or
-/// what is proved when the budget is spent. Where some gate has half columns, those of one row stay open first, by
-/// `search_pool_row`: that mostly proves as much, in a small part of the time. Where no gate has any, or that search
-/// ends without a row and with units left, `search_trails` is next. Where it ends at a gate, `search_pool_row` leaves
-/// open the gates that have too many ways to be filled. Each search has the whole budget. Where none finds a row, the
-/// gate is told at which that of version 1 ended.
+/// what is proved when the budget is spent. Where some gate has half columns, `search_pool_row` leaves open those of
+/// one row first, since far fewer choices are listed so. Where no gate has any, or that search ends without a row though
+/// units are left, `search_trails` is next. Where it ends at a gate, `search_pool_row` leaves open the gates alone that
+/// have too many ways to be filled. Where this finds no row either, that gate is told. Each search has the whole budget.
 #[tactic(auto, using(crate::proofs::Ended::longer_found, crate::proofs::Ended::longer_spent))]
 pub fn search_either(
     alloc: Global,
