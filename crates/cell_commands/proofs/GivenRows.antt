@@ -1,5 +1,5 @@
 -- What a file of evidence gives to draw, from what its check answered, and the end of its drawing.
-use Rattle.std.proofs.Common.{ℕ, ◌≡◌, List, Result, Ok, Err, IfOk, ap, codes, inl, inr, length, subst, sym, ◌∙◌}
+use Rattle.std.proofs.Common.{ℕ, ◌≡◌, List, Result, Ok, Err, IfOk, ap, codes, inl, inr, subst, sym, ◌∙◌}
 use Rattle.cell_num.specs.Lines.{count_line}
 use Rattle.cell_num.specs.declared.list.NoMemory.{NoMemory}
 use Rattle.row_model.specs.declared.column.Column.{Column}
@@ -19,6 +19,7 @@ use Rattle.cell_commands.proofs.LogReads.{OfAll}
 use Rattle.cell_commands.specs.declared.trail_checking.TrailAnswer.{TrailAnswer}
 use Rattle.cell_commands.specs.declared.trail_checking.TrailAnswer.TheVariants as trail
 use Rattle.cell_commands.specs.TrailCheck as trails
+use Rattle.trail_either.specs.Either.{lemma_count}
 use Rattle.cell_commands.specs.Counts.{counts_text}
 use Rattle.cell_commands.specs.declared.certificate.Certificate.{Certificate}
 use Rattle.cell_commands.specs.declared.certificate.Certificate.TheVariants as held
@@ -47,7 +48,7 @@ pub certified_given : (inputs : Inputs) (bytes : List ℕ) (answer : TrailAnswer
 certified_given inputs bytes answer row gaps lemmas filled counts is checks counted =
     let checked : trails.Checks inputs bytes (trail.Accepted row gaps lemmas filled) = subst (trails.Checks inputs bytes) is checks in
     let (found, listed, many, full) = checked.2 in
-    (held.Trails found, listed, counted ∙ ap (λ n. counts_text n filled) many ∙ ap (λ n. counts_text (length found.lemmas) n) full)
+    (held.Trails found, listed, counted ∙ ap (λ n. counts_text n filled) many ∙ ap (λ n. counts_text (lemma_count found) n) full)
 
 pub trails_refused : (inputs : Inputs) (bytes : List ℕ) (answer told : TrailAnswer) (end : End) → answer ≡ told → trails.Checks inputs bytes answer → (trails.check_end inputs told).status ≡ status.Rejected → end ≡ trails.check_end inputs told → IsGiven Trails inputs bytes (Refused end)
 trails_refused inputs bytes answer told end same checks rejected is =

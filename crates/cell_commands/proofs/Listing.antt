@@ -15,12 +15,13 @@ use Rattle.bound_log.specs.Fits.{Fits}
 use Rattle.lemma_check.specs.Reaches.{best_of}
 use Rattle.log_check.specs.Accepted.{BestPasses, IsAccepted, Lists, RowPasses, WithKinds}
 use Rattle.row_search.specs.Ended.{IsSolved}
-use Rattle.trail_log.specs.declared.trails.TrailCertificate.{TrailCertificate}
-use Rattle.trail_log.specs.Fits.{TrailsFit}
-use Rattle.trail_check.specs.Accepted.{IsAccepted as IsAcceptedByTrails, least_gaps}
-use Rattle.trail_search.specs.Ended.{IsCertified}
+use Rattle.trail_either.specs.declared.evidence.TrailEvidence.{TrailEvidence}
+use Rattle.trail_either.specs.Accepted.{IsEitherAccepted}
+use Rattle.trail_either.specs.Either.{EitherFits, best_in, either_listing}
+use Rattle.trail_either.specs.Ended.{IsEitherCertified}
+use Rattle.trail_either.proofs.Passes.{accepted_with, best_with, few_with, fits_with}
 use Rattle.cell_commands.specs.Listed.{IsBestOf}
-use Rattle.cell_commands.specs.Other.{log_listing, trails_listing}
+use Rattle.cell_commands.specs.Other.{log_listing}
 
 -- the gaps that pass are at most those that the lemmas prove
 passed_least : (k : Kinds) (f : Fingers) (proved : ℕ) (row : Option Best) (gaps : ℕ) → BestPasses k f proved row gaps → gaps ≤ proved
@@ -69,33 +70,25 @@ solved_too value k f budget log row other best kinds some (j, of_j, some_j, solv
     let here : IsSolved value k f budget row log = subst (λ (m : Kinds). IsSolved value m f budget row log) (same_kinds f j k of_j some_j kinds some) solved in
     (k, kinds, some, solved_by value k f budget log row other best here arranges same is)
 
-pub trails_accepted_too : (k : Kinds) (f : Fingers) (trails : TrailCertificate) (gaps : ℕ) (other : List Column) (best : Best) → AreKinds f k → AreSomeKinds k → IsAcceptedByTrails f trails gaps → IsArrangement other f → gaps_of other ≡ gaps → IsBestOf k other best → IsAcceptedByTrails f (trails_listing trails best) gaps
-trails_accepted_too k f trails gaps other best kinds some accepted arranges same is = record {
-  gates = record { order = accepted.gates.order; opened = accepted.gates.opened };
-  justified = accepted.justified;
-  passes = passes_by accepted.passes;
-}
-  where
-    passes_by : WithKinds f (λ (j : Kinds). BestPasses j f (least_gaps f trails) trails.best gaps) → WithKinds f (λ (j : Kinds). BestPasses j f (least_gaps f trails) (Some best) gaps)
-    passes_by (j, of_j, some_j, passes) =
-        let here : BestPasses k f (least_gaps f trails) trails.best gaps = subst (λ (m : Kinds). BestPasses m f (least_gaps f trails) trails.best gaps) (same_kinds f j k of_j some_j kinds some) passes in
-        (k, kinds, some, passes_too k f (least_gaps f trails) trails.best gaps other best here arranges same is)
+pub trails_accepted_too : (k : Kinds) (f : Fingers) (trails : TrailEvidence) (gaps : ℕ) (other : List Column) (best : Best) → AreKinds f k → AreSomeKinds k → IsEitherAccepted f trails gaps → IsArrangement other f → gaps_of other ≡ gaps → IsBestOf k other best → IsEitherAccepted f (either_listing trails best) gaps
+trails_accepted_too k f trails gaps other best kinds some accepted arranges same is =
+    accepted_with f k trails gaps best kinds some accepted (λ proved passes. passes_too k f proved (best_in trails) gaps other best passes arranges same is)
 
-pub trails_list_too : (k : Kinds) (trails : TrailCertificate) (other : List Column) (best : Best) → IsBestOf k other best → Lists k (trails_listing trails best).best (λ row. row ≡ other)
-trails_list_too k trails other best is = is.columns
+pub trails_list_too : (k : Kinds) (trails : TrailEvidence) (other : List Column) (best : Best) → IsBestOf k other best → Lists k (best_in (either_listing trails best)) (λ row. row ≡ other)
+trails_list_too k trails other best is = subst (λ (listed : Option Best). Lists k listed (λ row. row ≡ other)) (sym (best_with trails best)) is.columns
 
-pub trails_fit_too : (k : Kinds) (trails : TrailCertificate) (other : List Column) (best : Best) → TrailsFit k trails → IsBestOf k other best → TrailsFit k (trails_listing trails best)
-trails_fit_too k trails other best fits is = record { fill = fits.fill; increase = fits.increase; order = fits.order; lemmas = fits.lemmas; best = is.fits }
+pub trails_fit_too : (k : Kinds) (trails : TrailEvidence) (other : List Column) (best : Best) → EitherFits k trails → IsBestOf k other best → EitherFits k (either_listing trails best)
+trails_fit_too k trails other best fits is = fits_with k trails best fits is.fits
 
-pub certified_by : (k : Kinds) (f : Fingers) (trails : TrailCertificate) (row other : List Column) (best : Best) → AreKinds f k → AreSomeKinds k → IsCertified k f row trails → IsArrangement other f → gaps_of other ≡ gaps_of row → IsBestOf k other best → IsCertified k f other (trails_listing trails best)
+pub certified_by : (k : Kinds) (f : Fingers) (trails : TrailEvidence) (row other : List Column) (best : Best) → AreKinds f k → AreSomeKinds k → IsEitherCertified k f row trails → IsArrangement other f → gaps_of other ≡ gaps_of row → IsBestOf k other best → IsEitherCertified k f other (either_listing trails best)
 certified_by k f trails row other best kinds some certified arranges same is = record {
-  accepted = subst (IsAcceptedByTrails f (trails_listing trails best)) (sym same) (trails_accepted_too k f trails (gaps_of row) other best kinds some certified.accepted arranges same is);
-  few_ways = certified.few_ways;
-  lists = is.columns;
+  accepted = subst (IsEitherAccepted f (either_listing trails best)) (sym same) (trails_accepted_too k f trails (gaps_of row) other best kinds some certified.accepted arranges same is);
+  few_ways = few_with f trails best certified.few_ways;
+  lists = trails_list_too k trails other best is;
   fits = trails_fit_too k trails other best certified.fits is;
 }
 
-pub certified_too : (k : Kinds) (f : Fingers) (trails : TrailCertificate) (row other : List Column) (best : Best) → AreKinds f k → AreSomeKinds k → WithKinds f (λ j. IsCertified j f row trails) → IsArrangement other f → gaps_of other ≡ gaps_of row → IsBestOf k other best → WithKinds f (λ j. IsCertified j f other (trails_listing trails best))
+pub certified_too : (k : Kinds) (f : Fingers) (trails : TrailEvidence) (row other : List Column) (best : Best) → AreKinds f k → AreSomeKinds k → WithKinds f (λ j. IsEitherCertified j f row trails) → IsArrangement other f → gaps_of other ≡ gaps_of row → IsBestOf k other best → WithKinds f (λ j. IsEitherCertified j f other (either_listing trails best))
 certified_too k f trails row other best kinds some (j, of_j, some_j, certified) arranges same is =
-    let here : IsCertified k f row trails = subst (λ (m : Kinds). IsCertified m f row trails) (same_kinds f j k of_j some_j kinds some) certified in
+    let here : IsEitherCertified k f row trails = subst (λ (m : Kinds). IsEitherCertified m f row trails) (same_kinds f j k of_j some_j kinds some) certified in
     (k, kinds, some, certified_by k f trails row other best kinds some here arranges same is)

@@ -7,18 +7,18 @@ use Rattle.row_state.specs.declared.kind.Kinds.{Kinds}
 use Rattle.row_state.specs.Start.{AreKinds, AreSomeKinds}
 use Rattle.bound_log.specs.declared.fault.LogFault.{LogFault}
 use Rattle.bound_log.specs.declared.fault.LogFault.TheVariants as misread_by
-use Rattle.log_check.specs.Accepted.{BestPasses, WithKinds, columns_listed}
+use Rattle.log_check.specs.Accepted.{WithKinds, columns_listed}
 use Rattle.log_check.proofs.SameKinds.{for_kinds}
 use Rattle.cell_commands.proofs.Accepted.{listed_so}
-use Rattle.trail_log.specs.declared.trails.TrailCertificate.{TrailCertificate}
-use Rattle.trail_log.specs.Fits.{TrailsFit}
-use Rattle.trail_log.specs.Reading.{trails_of}
-use Rattle.trail_log.specs.Text.{trails_text}
 use Rattle.trail_check.specs.declared.refusal.TrailRefusal.{TrailRefusal}
 use Rattle.trail_check.specs.declared.refusal.TrailRefusal.TheVariants as because
-use Rattle.trail_check.specs.Accepted.{IsAccepted, IsLow, IsNeverAccepted, least_gaps}
-use Rattle.trail_check.specs.Gates.{HasFewWays}
+use Rattle.trail_check.specs.Accepted.{IsLow}
 use Rattle.trail_check.specs.Refusal.{IsFault}
+use Rattle.trail_either.specs.declared.evidence.TrailEvidence.{TrailEvidence}
+use Rattle.trail_either.specs.Accepted.{HasFewEitherWays, IsEitherAccepted, IsNeverAccepted}
+use Rattle.trail_either.specs.Either.{EitherFits, best_in, either_text}
+use Rattle.trail_either.specs.Reading.{either_of}
+use Rattle.trail_either.proofs.Passes.{Passes, passes}
 use Rattle.call_end.specs.declared.end.End.{End}
 use Rattle.call_end.specs.declared.status.Status.TheVariants as status
 use Rattle.cell_inputs.specs.Inputs.{Inputs}
@@ -28,39 +28,36 @@ use Rattle.cell_commands.specs.declared.trail_checking.TrailAnswer.{TrailAnswer}
 use Rattle.cell_commands.specs.declared.trail_checking.TrailAnswer.TheVariants.{Accepted, Misread, Rejected}
 
 -- the bytes are the text of this certificate and of no other, for the kinds of the fingers
-pub record AreTextOf (inputs : Inputs) (bytes : List ℕ) (k : Kinds) (trails : TrailCertificate) : Type 0 where
+pub record AreTextOf (inputs : Inputs) (bytes : List ℕ) (k : Kinds) (trails : TrailEvidence) : Type 0 where
   pub kinds : AreKinds inputs.fingers k
   pub some_kinds : AreSomeKinds k
-  pub read : trails_of bytes inputs.cell.name k ≡ Ok trails
-  pub fits : TrailsFit k trails
-  pub text : bytes ≡ trails_text inputs.cell.name trails
-  pub one : (other : TrailCertificate) → TrailsFit k other → trails_text inputs.cell.name other ≡ bytes → other ≡ trails
+  pub read : either_of bytes inputs.cell.name k ≡ Ok trails
+  pub fits : EitherFits k trails
+  pub text : bytes ≡ either_text inputs.cell.name trails
+  pub one : (other : TrailEvidence) → EitherFits k other → either_text inputs.cell.name other ≡ bytes → other ≡ trails
 
 -- a certificate that is accepted with no gaps has no text that an accepted one has
-rejected : (inputs : Inputs) (bytes : List ℕ) (k : Kinds) (trails : TrailCertificate)
+rejected : (inputs : Inputs) (bytes : List ℕ) (k : Kinds) (trails : TrailEvidence)
     → AreTextOf inputs bytes k trails → IsNeverAccepted inputs.fingers trails → HoldsAccepted inputs bytes → ⊥
 rejected inputs bytes k trails is never (gaps, lemmas, filled, (j, of_j, some_j, holds)) =
-    let fits : TrailsFit k holds.trails =
-    for_kinds inputs.fingers j (λ kinds. TrailsFit kinds holds.trails) of_j some_j holds.fits k is.kinds is.some_kinds in
+    let fits : EitherFits k holds.trails =
+    for_kinds inputs.fingers j (λ kinds. EitherFits kinds holds.trails) of_j some_j holds.fits k is.kinds is.some_kinds in
     let same : holds.trails ≡ trails = is.one holds.trails fits (sym holds.text) in
-    never gaps (subst (λ (t : TrailCertificate). IsAccepted inputs.fingers t gaps) same holds.accepted)
+    never gaps (subst (λ (t : TrailEvidence). IsEitherAccepted inputs.fingers t gaps) same holds.accepted)
 
 -- the row that the certificate lists, by kinds of the fingers
-listed : (inputs : Inputs) (bytes : List ℕ) (k : Kinds) (trails : TrailCertificate) (row : List Column) (gaps : ℕ) → AreTextOf inputs bytes k trails → IsLow inputs.fingers gaps → IsAccepted inputs.fingers trails gaps → HasFewWays inputs.fingers trails → MatchOption trails.best (row ≡ []) (λ best. row ≡ columns_listed k best.steps) → IsListed inputs bytes row trails
-listed inputs bytes k trails row gaps is low accepted few columns = by_kinds accepted.passes
-  where
-    by_kinds : WithKinds inputs.fingers (λ j. BestPasses j inputs.fingers (least_gaps inputs.fingers trails) trails.best gaps) → IsListed inputs bytes row trails
-    by_kinds (j, of_j, some_j, passed) =
-        let passes : BestPasses k inputs.fingers (least_gaps inputs.fingers trails) trails.best gaps = for_kinds inputs.fingers j (λ kinds. BestPasses kinds inputs.fingers (least_gaps inputs.fingers trails) trails.best gaps) of_j some_j passed k is.kinds is.some_kinds in
-        let (lists, arranges, same) = listed_so k inputs.fingers (least_gaps inputs.fingers trails) gaps row trails.best passes columns in
-        record {
-          arranges = arranges;
-          least = λ other arranged. omega (arith, low other arranged, same);
-          text = is.text;
-          listed = (k, is.kinds, is.some_kinds, record { accepted = subst (IsAccepted inputs.fingers trails) same accepted; few_ways = few; lists = lists; fits = is.fits });
-        }
+listed : (inputs : Inputs) (bytes : List ℕ) (k : Kinds) (trails : TrailEvidence) (row : List Column) (gaps : ℕ) → AreTextOf inputs bytes k trails → IsLow inputs.fingers gaps → IsEitherAccepted inputs.fingers trails gaps → HasFewEitherWays inputs.fingers trails → MatchOption (best_in trails) (row ≡ []) (λ best. row ≡ columns_listed k best.steps) → IsListed inputs bytes row trails
+listed inputs bytes k trails row gaps is low accepted few columns =
+    let passed : Passes inputs.fingers k trails gaps = passes inputs.fingers k trails gaps is.kinds is.some_kinds accepted in
+    let (lists, arranges, same) = listed_so k inputs.fingers passed.proved gaps row (best_in trails) passed.best columns in
+    record {
+      arranges = arranges;
+      least = λ other arranged. omega (arith, low other arranged, same);
+      text = is.text;
+      listed = (k, is.kinds, is.some_kinds, record { accepted = subst (IsEitherAccepted inputs.fingers trails) same accepted; few_ways = few; lists = lists; fits = is.fits });
+    }
 
-judged : (inputs : Inputs) (bytes : List ℕ) (k : Kinds) (trails : TrailCertificate) (answer : TrailAnswer) → AreTextOf inputs bytes k trails → Judges inputs.fingers k trails answer → Checks inputs bytes answer
+judged : (inputs : Inputs) (bytes : List ℕ) (k : Kinds) (trails : TrailEvidence) (answer : TrailAnswer) → AreTextOf inputs bytes k trails → Judges inputs.fingers k trails answer → Checks inputs bytes answer
 judged inputs bytes k trails (Accepted row gaps lemmas filled) is (low, accepted, few, many, full, columns) = (
   low,
   (k, is.kinds, is.some_kinds, record { trails = trails; fits = is.fits; text = is.text; accepted = accepted; lemmas_are = many; filled_are = full }),
@@ -73,15 +70,15 @@ judged inputs bytes k trails (Rejected cause) is (other, refuses, never) = (
   λ fault. rejected inputs bytes k trails is (never fault),
 )
 
-pub judged_checks : (inputs : Inputs) (bytes : List ℕ) (k : Kinds) (trails : TrailCertificate) (r : Result TrailAnswer NoMemory) → AreTextOf inputs bytes k trails → IfOk r (Judges inputs.fingers k trails) → IfOk r (Checks inputs bytes)
+pub judged_checks : (inputs : Inputs) (bytes : List ℕ) (k : Kinds) (trails : TrailEvidence) (r : Result TrailAnswer NoMemory) → AreTextOf inputs bytes k trails → IfOk r (Judges inputs.fingers k trails) → IfOk r (Checks inputs bytes)
 judged_checks inputs bytes k trails (Ok answer) is judges = judged inputs bytes k trails answer is judges
 judged_checks inputs bytes k trails (Err e) is judges = tt
 
-misread : (inputs : Inputs) (bytes : List ℕ) (k : Kinds) (f : LogFault) → AreKinds inputs.fingers k → AreSomeKinds k → f ≢ misread_by.NoMemory → trails_of bytes inputs.cell.name k ≡ Err f → ((trails : TrailCertificate) → TrailsFit k trails → trails_text inputs.cell.name trails ≢ bytes) → Checks inputs bytes (Misread f)
+misread : (inputs : Inputs) (bytes : List ℕ) (k : Kinds) (f : LogFault) → AreKinds inputs.fingers k → AreSomeKinds k → f ≢ misread_by.NoMemory → either_of bytes inputs.cell.name k ≡ Err f → ((trails : TrailEvidence) → EitherFits k trails → either_text inputs.cell.name trails ≢ bytes) → Checks inputs bytes (Misread f)
 misread inputs bytes k f of_k some_k other wrong none =
-    (other, (k, of_k, some_k, wrong), λ (gaps, lemmas, filled, (j, of_j, some_j, holds)). none holds.trails (for_kinds inputs.fingers j (λ kinds. TrailsFit kinds holds.trails) of_j some_j holds.fits k of_k some_k) (sym holds.text))
+    (other, (k, of_k, some_k, wrong), λ (gaps, lemmas, filled, (j, of_j, some_j, holds)). none holds.trails (for_kinds inputs.fingers j (λ kinds. EitherFits kinds holds.trails) of_j some_j holds.fits k of_k some_k) (sym holds.text))
 
-pub misread_checks : (inputs : Inputs) (bytes : List ℕ) (k : Kinds) (f : LogFault) (r : Result TrailAnswer NoMemory) → AreKinds inputs.fingers k → AreSomeKinds k → (f ≢ misread_by.NoMemory → trails_of bytes inputs.cell.name k ≡ Err f) → (f ≢ misread_by.NoMemory → (trails : TrailCertificate) → TrailsFit k trails → trails_text inputs.cell.name trails ≢ bytes) → IfOk r (λ answer. (f ≢ misread_by.NoMemory) × (answer ≡ Misread f)) → IfOk r (Checks inputs bytes)
+pub misread_checks : (inputs : Inputs) (bytes : List ℕ) (k : Kinds) (f : LogFault) (r : Result TrailAnswer NoMemory) → AreKinds inputs.fingers k → AreSomeKinds k → (f ≢ misread_by.NoMemory → either_of bytes inputs.cell.name k ≡ Err f) → (f ≢ misread_by.NoMemory → (trails : TrailEvidence) → EitherFits k trails → either_text inputs.cell.name trails ≢ bytes) → IfOk r (λ answer. (f ≢ misread_by.NoMemory) × (answer ≡ Misread f)) → IfOk r (Checks inputs bytes)
 misread_checks inputs bytes k f (Ok answer) of_k some_k wrong none (other, is) =
     subst (λ (a : TrailAnswer). Checks inputs bytes a) (sym is) (misread inputs bytes k f of_k some_k other (wrong other) (none other))
 misread_checks inputs bytes k f (Err e) of_k some_k wrong none is = tt

@@ -1,5 +1,5 @@
 -- What `plan` results in, with any evidence: its report.
-use Rattle.std.specs.Prelude.{ℕ, ◌≡◌, List, ◌++◌, length}
+use Rattle.std.specs.Prelude.{ℕ, ◌≡◌, List, ◌++◌}
 use Rattle.bound_log.specs.Text.{log_text}
 use Rattle.call_end.specs.declared.end.End.{End}
 use Rattle.call_end.specs.declared.status.Status.TheVariants as status
@@ -15,7 +15,7 @@ use Rattle.cell_commands.specs.Certificate.{lemma_count}
 use Rattle.cell_commands.specs.Searched.{Crowds, IsFoundBy, IsOpenBy}
 use Rattle.row_model.specs.declared.column.Column.{Column}
 use Rattle.spice_net.specs.declared.subckt.Subckt.{Subckt}
-use Rattle.trail_log.specs.Text.{trails_text}
+use Rattle.trail_either.specs.Either.{either_text, fill_count, lemma_count as trail_lemmas}
 use Rattle.cell_commands.specs.Counts.{counts_text}
 use Rattle.cell_commands.specs.Evidence.{gate_text}
 
@@ -35,11 +35,11 @@ Plans evidence inputs (Crowded gate) = Crowds evidence inputs gate
 abbrev pub planned_text : Subckt → List Column → Certificate → List ℕ
 planned_text cell row (Log log) = plan_text cell.name cell.nets row
 planned_text cell row (Trails trails) =
-    plan_text cell.name cell.nets row ++ counts_text (length trails.lemmas) (length trails.fill)
+    plan_text cell.name cell.nets row ++ counts_text (trail_lemmas trails) (fill_count trails)
 
 abbrev pub certificate_text : List ℕ → Certificate → List ℕ
 certificate_text name (Log log) = log_text name log
-certificate_text name (Trails trails) = trails_text name trails
+certificate_text name (Trails trails) = either_text name trails
 
 -- the counts, and the text of the certificate
 abbrev pub open_text : Subckt → ℕ → Certificate → List ℕ

@@ -7,7 +7,8 @@ use Rattle.call_words.specs.declared.evidence.Evidence.TheVariants.{Log, Trails}
 use Rattle.cell_inputs.specs.Inputs.{Inputs}
 use Rattle.log_check.specs.Accepted.{WithKinds}
 use Rattle.cell_commands.specs.Listed.{IsBestOf}
-use Rattle.cell_commands.specs.Other.{log_listing, trails_listing}
+use Rattle.trail_either.specs.Either.{either_listing}
+use Rattle.cell_commands.specs.Other.{log_listing}
 use Rattle.cell_commands.specs.declared.certificate.Certificate.{Certificate}
 use Rattle.cell_commands.specs.declared.certificate.Certificate.TheVariants as held
 use Rattle.cell_commands.specs.Searched.{IsFoundBy}
@@ -23,7 +24,7 @@ IsFoundFor inputs row certificate = IsFoundBy (kind_of certificate) inputs row c
 -- the same with this row in place of its own
 abbrev pub listing : Certificate → Best → Certificate
 listing (held.Log log) best = held.Log (log_listing log best)
-listing (held.Trails trails) best = held.Trails (trails_listing trails best)
+listing (held.Trails trails) best = held.Trails (either_listing trails best)
 
 -- the other certificate is the same except the row that it lists, which is this one
 abbrev pub ListsInstead : Inputs → List Column → Certificate → Certificate → Type 0

@@ -11,16 +11,16 @@ use Rattle.cell_commands.specs.declared.certificate.Certificate.{Certificate}
 use Rattle.cell_commands.specs.declared.certificate.Certificate.TheVariants as held
 use Rattle.cell_commands.specs.declared.searched.Searched.{Searched}
 use Rattle.cell_commands.specs.declared.searched.Searched.TheVariants.{Found, Open, Crowded}
-use Rattle.trail_log.specs.declared.trails.TrailCertificate.{TrailCertificate}
-use Rattle.trail_search.specs.Ended.{IsCertified as IsCertifiedByTrails, IsCrowded, IsTrailFound, IsTrailSpent}
+use Rattle.trail_either.specs.declared.evidence.TrailEvidence.{TrailEvidence}
+use Rattle.trail_either.specs.Ended.{IsEitherCertified, IsEitherCrowded, IsEitherFound, IsEitherSpent}
 
--- the certificate by trails is accepted and lists the row, and was found within the budget
-abbrev pub IsFoundByTrails : Inputs → List Column → TrailCertificate → Type 0
-IsFoundByTrails inputs row trails = IsTrailFound inputs.fingers inputs.tech.budget row trails
+-- the certificate by trails, of either version, is accepted and lists the row, and was found within the budget
+abbrev pub IsFoundByTrails : Inputs → List Column → TrailEvidence → Type 0
+IsFoundByTrails inputs row trails = IsEitherFound inputs.fingers inputs.tech.budget row trails
 
 -- its lemmas are justified, and prove that many gaps of every row; the budget is spent
-abbrev pub IsOpenByTrails : Inputs → ℕ → TrailCertificate → Type 0
-IsOpenByTrails inputs proved trails = IsTrailSpent inputs.fingers inputs.tech.budget trails proved
+abbrev pub IsOpenByTrails : Inputs → ℕ → TrailEvidence → Type 0
+IsOpenByTrails inputs proved trails = IsEitherSpent inputs.fingers inputs.tech.budget trails proved
 
 -- the row is the first least one, with a certificate of this kind that is accepted and lists it, found within the
 -- budget
@@ -34,7 +34,7 @@ IsFoundBy _ inputs row _ = ⊥
 abbrev pub IsCertifiedBy : Evidence → Inputs → List Column → Certificate → Type 0
 IsCertifiedBy Log inputs row (held.Log found) = log.IsCertified inputs row found
 IsCertifiedBy Trails inputs row (held.Trails found) =
-    WithKinds inputs.fingers (λ k. IsCertifiedByTrails k inputs.fingers row found)
+    WithKinds inputs.fingers (λ k. IsEitherCertified k inputs.fingers row found)
 IsCertifiedBy _ inputs row _ = ⊥
 
 -- the certificate is of this kind, lists no row, and proves that many gaps of every row
@@ -43,12 +43,10 @@ IsOpenBy Log inputs proved (held.Log spent) = log.IsUnfinished inputs proved spe
 IsOpenBy Trails inputs proved (held.Trails spent) = IsOpenByTrails inputs proved spent
 IsOpenBy _ inputs proved _ = ⊥
 
--- The search ends at this gate, without a row. In some order of the gates it is the first with too many ways to pair
--- its fingers, of those that are not left open. Or it is the first that is left open, and every row has more gaps than
--- lemmas over that order prove. A search for a log never ends so.
+-- The search ends at this gate, and finds no row with a certificate of either version. A search for a log never ends so.
 abbrev pub Crowds : Evidence → Inputs → NetNo → Type 0
 Crowds Log inputs gate = ⊥
-Crowds Trails inputs gate = IsCrowded inputs.fingers gate
+Crowds Trails inputs gate = IsEitherCrowded inputs.fingers gate
 
 abbrev pub IsSearched : Evidence → Inputs → Searched → Type 0
 IsSearched evidence inputs (Found row certificate) = IsFoundBy evidence inputs row certificate

@@ -1,5 +1,5 @@
--- What a check of a certificate by trails results in.
-use Rattle.std.specs.Prelude.{ℕ, ◌≡◌, ◌≢◌, List, ◌++◌, codes, length, Ok, Err}
+-- What a check of a certificate by trails, of either version, results in.
+use Rattle.std.specs.Prelude.{ℕ, ◌≡◌, ◌≢◌, List, ◌++◌, codes, Ok, Err}
 use Rattle.cell_num.specs.Fingers.{columns_of}
 use Rattle.cell_num.specs.declared.net.NetNo.{NetNo}
 use Rattle.row_model.specs.declared.column.Column.{Column}
@@ -8,15 +8,15 @@ use Rattle.row_model.specs.Gaps.{gaps_of}
 use Rattle.row_state.specs.declared.kind.Kinds.{Kinds}
 use Rattle.bound_log.specs.declared.fault.LogFault.TheVariants as misread
 use Rattle.log_check.specs.Accepted.{WithKinds}
-use Rattle.trail_log.specs.declared.trails.TrailCertificate.{TrailCertificate}
-use Rattle.trail_log.specs.Fits.{TrailsFit}
-use Rattle.trail_log.specs.Reading.{trails_of}
-use Rattle.trail_log.specs.Text.{trails_text}
 use Rattle.trail_check.specs.declared.refusal.TrailRefusal.{TrailRefusal}
 use Rattle.trail_check.specs.declared.refusal.TrailRefusal.TheVariants as because
-use Rattle.trail_check.specs.Accepted.{IsAccepted, IsLow}
-use Rattle.trail_check.specs.Refusal.{IsFault, Refuses}
-use Rattle.trail_search.specs.Ended.{IsCertified}
+use Rattle.trail_check.specs.Accepted.{IsLow}
+use Rattle.trail_check.specs.Refusal.{IsFault}
+use Rattle.trail_either.specs.declared.evidence.TrailEvidence.{TrailEvidence}
+use Rattle.trail_either.specs.Accepted.{EitherRefuses, IsEitherAccepted}
+use Rattle.trail_either.specs.Either.{EitherFits, either_text, fill_count, lemma_count}
+use Rattle.trail_either.specs.Ended.{IsEitherCertified}
+use Rattle.trail_either.specs.Reading.{either_of}
 use Rattle.call_end.specs.declared.end.End.{End}
 use Rattle.call_end.specs.declared.status.Status.TheVariants as status
 use Rattle.call_end.specs.End.{reports}
@@ -30,20 +30,20 @@ use Rattle.cell_commands.specs.declared.trail_checking.TrailAnswer.TheVariants.{
 
 -- the bytes are the text of a certificate that is accepted, with that many gaps, lemmas and filled gates
 pub record IsTextOf (inputs : Inputs) (bytes : List ℕ) (gaps lemmas filled : ℕ) (k : Kinds) : Type 0 where
-  pub trails : TrailCertificate
-  pub fits : TrailsFit k trails
-  pub text : bytes ≡ trails_text inputs.cell.name trails
-  pub accepted : IsAccepted inputs.fingers trails gaps
-  pub lemmas_are : lemmas ≡ length trails.lemmas
-  pub filled_are : filled ≡ length trails.fill
+  pub trails : TrailEvidence
+  pub fits : EitherFits k trails
+  pub text : bytes ≡ either_text inputs.cell.name trails
+  pub accepted : IsEitherAccepted inputs.fingers trails gaps
+  pub lemmas_are : lemmas ≡ lemma_count trails
+  pub filled_are : filled ≡ fill_count trails
 
 -- The bytes are the text of the certificate, which is accepted and lists the row: an arrangement of the fingers, and
 -- no other has fewer gaps.
-pub record IsListed (inputs : Inputs) (bytes : List ℕ) (row : List Column) (trails : TrailCertificate) : Type 0 where
+pub record IsListed (inputs : Inputs) (bytes : List ℕ) (row : List Column) (trails : TrailEvidence) : Type 0 where
   pub arranges : IsArrangement row inputs.fingers
   pub least : IsLow inputs.fingers (gaps_of row)
-  pub text : bytes ≡ trails_text inputs.cell.name trails
-  pub listed : WithKinds inputs.fingers (λ k. IsCertified k inputs.fingers row trails)
+  pub text : bytes ≡ either_text inputs.cell.name trails
+  pub listed : WithKinds inputs.fingers (λ k. IsEitherCertified k inputs.fingers row trails)
 
 -- so it is for the kinds of the fingers
 abbrev pub IsTextOfAccepted : Inputs → List ℕ → ℕ → ℕ → ℕ → Type 0
@@ -57,9 +57,9 @@ HoldsAccepted inputs bytes =
 -- they are the text of a certificate that is refused by this cause
 abbrev pub HoldsRefused : Inputs → List ℕ → TrailRefusal → Kinds → Type 0
 HoldsRefused inputs bytes cause k =
-    (trails : TrailCertificate)
-    × (trails_of bytes inputs.cell.name k ≡ Ok trails)
-    × Refuses inputs.fingers trails cause
+    (trails : TrailEvidence)
+    × (either_of bytes inputs.cell.name k ≡ Ok trails)
+    × EitherRefuses inputs.fingers trails cause
 
 -- they are the text of a certificate with a gate whose fingers pair in more ways than a checker lists
 abbrev pub HoldsCrowded : Inputs → List ℕ → Type 0
@@ -73,13 +73,13 @@ abbrev pub Checks : Inputs → List ℕ → TrailAnswer → Type 0
 Checks inputs bytes (Accepted row gaps lemmas filled) =
     IsLow inputs.fingers gaps
     × IsTextOfAccepted inputs bytes gaps lemmas filled
-    × ((trails : TrailCertificate)
+    × ((trails : TrailEvidence)
     × IsListed inputs bytes row trails
-    × (lemmas ≡ length trails.lemmas)
-    × (filled ≡ length trails.fill))
+    × (lemmas ≡ lemma_count trails)
+    × (filled ≡ fill_count trails))
 Checks inputs bytes (Misread f) =
     (f ≢ misread.NoMemory)
-    × WithKinds inputs.fingers (λ k. trails_of bytes inputs.cell.name k ≡ Err f)
+    × WithKinds inputs.fingers (λ k. either_of bytes inputs.cell.name k ≡ Err f)
     × (HoldsAccepted inputs bytes → ⊥)
 Checks inputs bytes (Rejected cause) =
     (cause ≢ because.NoMemory)

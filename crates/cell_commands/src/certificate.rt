@@ -2,8 +2,7 @@ ghost use Rattle.std.specs.Prelude.{◌≡◌, ◌++◌, IfOk, codes, string_byt
 ghost use Rattle.bound_log.specs.Fits.{ForSome, IsLogName};
 ghost use Rattle.cell_commands.specs.Certificate.{CanBeWritten, lemma_count, row_evidence, trails_evidence};
 ghost use Rattle.cell_commands.specs.Evidence.{shown};
-ghost use Rattle.trail_log.specs.Fits.{TrailsFit};
-ghost use Rattle.trail_log.specs.Text.{trails_text};
+ghost use Rattle.trail_either.specs.Either.{EitherFits, either_text};
 
 use crate::counts::put_counts;
 use crate::evidence::RowEvidence;
@@ -12,13 +11,13 @@ use cell_num::{Bytes, NoMemory};
 use log_output::{Content, KeptLog};
 use spice_net::Subckt;
 use std::alloc::Global;
-use trail_log::{TrailCertificate, write_trails};
+use trail_either::{TrailEvidence, write_either};
 
 /// The evidence of a row, or of what a search proves.
 #[derive(Drop)]
 pub enum Certificate {
     Log(KeptLog),
-    Trails(TrailCertificate),
+    Trails(TrailEvidence),
 }
 
 // The file of a certificate by trails.
@@ -26,15 +25,15 @@ fn trails_file(
     alloc: Global,
     cell: &Subckt,
     stem: &Stem,
-    trails: &TrailCertificate,
+    trails: &TrailEvidence,
 ) -> Result<Output, NoMemory>
     requires name { IsLogName cell.now.name }
-    requires fits { ForSome (λ k. TrailsFit k trails.now) }
+    requires fits { ForSome (λ k. EitherFits k trails.now) }
     ensures name { IfOk result (λ file. string_bytes file.name ≡ stem.now ++ codes ".ctrail") }
-    ensures bytes { IfOk result (λ file. file.bytes ≡ trails_text cell.now.name trails.now) }
+    ensures bytes { IfOk result (λ file. file.bytes ≡ either_text cell.now.name trails.now) }
 {
     let name = stem.with(alloc, ".ctrail")?;
-    let text = write_trails(alloc, &cell.name, trails)?;
+    let text = write_either(alloc, &cell.name, trails)?;
     let bytes = Content::of_bytes(Bytes::from_vec(text));
     Ok(Output { name, bytes })
 }
@@ -43,18 +42,14 @@ fn trails_evidence(
     alloc: Global,
     cell: &Subckt,
     stem: &Stem,
-    trails: &TrailCertificate,
+    trails: &TrailEvidence,
 ) -> Result<RowEvidence, NoMemory>
     requires name { IsLogName cell.now.name }
-    requires fits { ForSome (λ k. TrailsFit k trails.now) }
+    requires fits { ForSome (λ k. EitherFits k trails.now) }
     ensures { IfOk result (λ evidence. shown evidence ≡ trails_evidence cell.now stem.now trails.now) }
 {
     let mut counts = Bytes::new(alloc);
-    put_counts(
-        &mut counts,
-        trails.lemmas.len() as u64,
-        trails.fill.len() as u64,
-    )?;
+    put_counts(&mut counts, trails.lemmas(), trails.filled())?;
     let file = trails_file(alloc, cell, stem, trails)?;
     RowEvidence::of_file(alloc, file, counts)
 }
@@ -87,7 +82,7 @@ impl Certificate {
     {
         match self {
             Certificate::Log(log) => log.count(),
-            Certificate::Trails(trails) => trails.lemmas.len() as u64,
+            Certificate::Trails(trails) => trails.lemmas(),
         }
     }
 }

@@ -12,12 +12,12 @@ ghost use Rattle.bound_log.specs.declared.log.Log.{Log};
 ghost use Rattle.bound_log.specs.Fits.{Fits};
 ghost use Rattle.log_check.specs.Accepted.{IsAccepted, Lists, WithKinds};
 ghost use Rattle.row_search.specs.Ended.{IsSolved};
-ghost use Rattle.trail_log.specs.declared.trails.TrailCertificate.{TrailCertificate};
-ghost use Rattle.trail_log.specs.Fits.{TrailsFit};
-ghost use Rattle.trail_check.specs.Accepted.{IsAccepted as IsAcceptedByTrails};
-ghost use Rattle.trail_search.specs.Ended.{IsCertified};
+ghost use Rattle.trail_either.specs.declared.evidence.TrailEvidence.{TrailEvidence};
+ghost use Rattle.trail_either.specs.Accepted.{IsEitherAccepted};
+ghost use Rattle.trail_either.specs.Either.{EitherFits, best_in, either_listing};
+ghost use Rattle.trail_either.specs.Ended.{IsEitherCertified};
 ghost use Rattle.cell_commands.specs.Listed.{IsBestOf};
-ghost use Rattle.cell_commands.specs.Other.{log_listing, trails_listing};
+ghost use Rattle.cell_commands.specs.Other.{log_listing};
 
 /// A log that proves a row least proves so each other row with as few gaps: with the other one listed in place of its
 /// own it is accepted with the same gaps, and a text can hold it. It does nothing: its contract is the law.
@@ -37,19 +37,19 @@ pub fn log_of_other_row()
         → WithKinds f (λ k. IsSolved value k f budget other (log_listing log best)) }
 {}
 
-/// The same of a certificate by trails. It does nothing: its contract is the law.
+/// The same of a certificate by trails, of either version. It does nothing: its contract is the law.
 pub fn trails_of_other_row()
-    ensures accepted { (k : Kinds) (f : Fingers) (trails : TrailCertificate) (gaps : ℕ) (other : List Column)
-        (best : Best) → AreKinds f k → AreSomeKinds k → IsAcceptedByTrails f trails gaps
+    ensures accepted { (k : Kinds) (f : Fingers) (trails : TrailEvidence) (gaps : ℕ) (other : List Column)
+        (best : Best) → AreKinds f k → AreSomeKinds k → IsEitherAccepted f trails gaps
         → IsArrangement other f → gaps_of other ≡ gaps → IsBestOf k other best
-        → IsAcceptedByTrails f (trails_listing trails best) gaps }
-    ensures lists { (k : Kinds) (trails : TrailCertificate) (other : List Column) (best : Best)
-        → IsBestOf k other best → Lists k (trails_listing trails best).best (λ row. row ≡ other) }
-    ensures fits { (k : Kinds) (trails : TrailCertificate) (other : List Column) (best : Best) → TrailsFit k trails
-        → IsBestOf k other best → TrailsFit k (trails_listing trails best) }
+        → IsEitherAccepted f (either_listing trails best) gaps }
+    ensures lists { (k : Kinds) (trails : TrailEvidence) (other : List Column) (best : Best)
+        → IsBestOf k other best → Lists k (best_in (either_listing trails best)) (λ row. row ≡ other) }
+    ensures fits { (k : Kinds) (trails : TrailEvidence) (other : List Column) (best : Best) → EitherFits k trails
+        → IsBestOf k other best → EitherFits k (either_listing trails best) }
     // and what a search promises of the certificate that it finds, for the kinds of the fingers
-    ensures certified { (k : Kinds) (f : Fingers) (trails : TrailCertificate) (row other : List Column) (best : Best)
-        → AreKinds f k → AreSomeKinds k → WithKinds f (λ k. IsCertified k f row trails) → IsArrangement other f
-        → gaps_of other ≡ gaps_of row → IsBestOf k other best
-        → WithKinds f (λ k. IsCertified k f other (trails_listing trails best)) }
+    ensures certified { (k : Kinds) (f : Fingers) (trails : TrailEvidence) (row other : List Column) (best : Best)
+        → AreKinds f k → AreSomeKinds k → WithKinds f (λ k. IsEitherCertified k f row trails)
+        → IsArrangement other f → gaps_of other ≡ gaps_of row → IsBestOf k other best
+        → WithKinds f (λ k. IsEitherCertified k f other (either_listing trails best)) }
 {}

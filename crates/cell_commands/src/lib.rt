@@ -1,4 +1,4 @@
-// What `plan`, `make` and `check` result in, with any evidence: a log, a certificate by trails or one of tracks.
+// What `plan`, `make` and `check` result in, with any evidence: a log, a certificate by trails of either version, or one of tracks.
 #![tactic(auto)]
 
 mod best;
@@ -19,7 +19,6 @@ mod low_evidence;
 mod make_end;
 mod make_report;
 mod making;
-mod other;
 mod planning;
 mod relisted;
 mod searched;
@@ -38,7 +37,6 @@ pub use log_checker::LogChecker;
 pub use low::make_low;
 pub use low_check::check_low;
 pub use making::make;
-pub use other::trails_listing;
 pub use planning::plan;
 pub use searched::Searched;
 pub use trail_checking::{TrailAnswer, check_by_trails};

@@ -5,7 +5,7 @@ ghost use Rattle.call_end.specs.End.{reports};
 ghost use Rattle.cell_commands.specs.Certificate.{CanBeWritten};
 ghost use Rattle.cell_commands.specs.declared.certificate.Certificate.TheVariants as held;
 ghost use Rattle.cell_commands.specs.Plan.{PlansTo, open_text, planned_text};
-ghost use Rattle.trail_log.specs.Fits.{TrailsFit};
+ghost use Rattle.trail_either.specs.Either.{EitherFits};
 
 use crate::certificate::Certificate;
 use crate::counts::put_counts;
@@ -19,7 +19,7 @@ use cell_report::{log_unfinished, put_plan, put_unfinished};
 use row_model::Arrangement;
 use spice_net::Subckt;
 use std::alloc::Global;
-use trail_log::{TrailCertificate, write_trails};
+use trail_either::{TrailEvidence, write_either};
 
 fn put_planned(
     out: &mut Bytes,
@@ -33,11 +33,7 @@ fn put_planned(
     put_plan(out, &cell.name, &cell.nets, row)?;
     match certificate {
         Certificate::Log(_) => Ok(()),
-        Certificate::Trails(trails) => put_counts(
-            out,
-            trails.lemmas.len() as u64,
-            trails.fill.len() as u64,
-        ),
+        Certificate::Trails(trails) => put_counts(out, trails.lemmas(), trails.filled()),
     }
 }
 
@@ -58,17 +54,17 @@ fn planned(
 fn trails_unfinished(
     alloc: Global,
     cell: &Subckt,
-    trails: &TrailCertificate,
+    trails: &TrailEvidence,
     proved: u32,
 ) -> Result<End, NoMemory>
     requires name { IsLogName cell.now.name }
-    requires fits { ForSome (λ k. TrailsFit k trails.now) }
+    requires fits { ForSome (λ k. EitherFits k trails.now) }
     ensures { IfOk result (λ end.
         end ≡ reports status.Unfinished (open_text cell.now proved (held.Trails trails.now))) }
 {
-    let text = write_trails(alloc, &cell.name, trails)?;
+    let text = write_either(alloc, &cell.name, trails)?;
     let mut report = Status::Unfinished.report(alloc)?;
-    put_unfinished(&mut report, proved, trails.lemmas.len() as u64)?;
+    put_unfinished(&mut report, proved, trails.lemmas())?;
     report.extend(text.as_slice())?;
     Ok(End::says(alloc, Status::Unfinished, report))
 }

@@ -5,7 +5,6 @@ ghost use Rattle.cell_commands.specs.Relisted.{IsFoundFor, ListsInstead, kind_of
 
 use crate::best::list_best;
 use crate::certificate::Certificate;
-use crate::other::trails_listing;
 use bound_log::Best;
 use cell_inputs::Inputs;
 use cell_num::NoMemory;
@@ -19,7 +18,7 @@ fn listing(certificate: Certificate, best: Best) -> Certificate
 {
     match certificate {
         Certificate::Log(log) => Certificate::Log(log.listing(best)),
-        Certificate::Trails(trails) => Certificate::Trails(trails_listing(trails, best)),
+        Certificate::Trails(trails) => Certificate::Trails(trails.listing(best)),
     }
 }
 

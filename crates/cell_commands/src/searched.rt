@@ -9,7 +9,7 @@ use cell_make::Planned;
 use cell_num::{NetNo, NoMemory};
 use row_model::Arrangement;
 use std::alloc::Global;
-use trail_search::{TrailStop, search_trails};
+use trail_either::{EitherStop, search_either};
 
 /// What a search for a row and its evidence results in.
 #[derive(Drop)]
@@ -24,8 +24,8 @@ pub enum Searched {
         certificate: Certificate,
         proved: u32,
     },
-    /// There are too many ways to pair the fingers of the gate. It is the first such gate that is not left open. Or it
-    /// is the first that is left open, and each row has more gaps than lemmas prove then.
+    /// There are too many ways to pair the fingers of the gate: the search for a certificate by trails ends at it, and
+    /// finds a row with neither version.
     Crowded {
         gate: NetNo,
     },
@@ -50,17 +50,17 @@ fn by_trails(alloc: Global, inputs: &Inputs) -> Result<Searched, NoMemory>
     ensures { IfOk result (IsSearched Trails inputs.now) }
 {
     inputs.show_limits();
-    match search_trails(alloc, &inputs.fingers, inputs.budget()) {
+    match search_either(alloc, &inputs.fingers, inputs.budget()) {
         Ok(found) => Ok(Searched::Found {
             row: found.row,
-            certificate: Certificate::Trails(found.trails),
+            certificate: Certificate::Trails(found.evidence),
         }),
-        Err(TrailStop::Unfinished { trails, proved }) => Ok(Searched::Open {
-            certificate: Certificate::Trails(trails),
+        Err(EitherStop::Unfinished { evidence, proved }) => Ok(Searched::Open {
+            certificate: Certificate::Trails(evidence),
             proved,
         }),
-        Err(TrailStop::Choices { gate }) => Ok(Searched::Crowded { gate }),
-        Err(TrailStop::NoMemory) => Err(NoMemory),
+        Err(EitherStop::Choices { gate }) => Ok(Searched::Crowded { gate }),
+        Err(EitherStop::NoMemory) => Err(NoMemory),
     }
 }
 

@@ -3,6 +3,7 @@ ghost use Rattle.bound_log.specs.declared.fault.LogFault.TheVariants as misread;
 ghost use Rattle.cell_commands.specs.TrailCheck.{Checks, TrailChecksTo, check_end};
 ghost use Rattle.cell_commands.specs.Judged.{Judges};
 ghost use Rattle.cell_commands.specs.declared.trail_checking.TrailAnswer.TheVariants.{Misread};
+ghost use Rattle.trail_either.specs.Either.{lemma_count};
 
 use crate::counts::put_counts;
 use crate::listed::listed_row;
@@ -14,8 +15,8 @@ use cell_report::{put_row, put_trail_refusal, put_trails};
 use row_model::Arrangement;
 use row_state::{Kinds, kinds};
 use std::alloc::Global;
-use trail_check::{TrailRefusal, check_trails};
-use trail_log::{TrailCertificate, read_trails};
+use trail_check::TrailRefusal;
+use trail_either::{TrailEvidence, check_either, read_either};
 
 /// What a check of some bytes resulted in.
 #[derive(Drop)]
@@ -38,18 +39,18 @@ fn judge(
     alloc: Global,
     inputs: &Inputs,
     kinds: &Kinds,
-    trails: &TrailCertificate,
+    trails: &TrailEvidence,
 ) -> Result<TrailAnswer, NoMemory>
-    requires { length trails.now.lemmas ≤ MOST_BYTES }
+    requires { lemma_count trails.now ≤ MOST_BYTES }
     ensures { IfOk result (Judges inputs.now.fingers kinds.now trails.now) }
 {
     inputs.show_limits();
-    match check_trails(alloc, &inputs.fingers, trails) {
+    match check_either(alloc, &inputs.fingers, trails) {
         Ok(gaps) => Ok(TrailAnswer::Accepted {
-            row: listed_row(alloc, kinds, &trails.best)?,
+            row: listed_row(alloc, kinds, trails.best())?,
             gaps,
-            lemmas: trails.lemmas.len() as u64,
-            filled: trails.fill.len() as u64,
+            lemmas: trails.lemmas(),
+            filled: trails.filled(),
         }),
         Err(TrailRefusal::NoMemory) => Err(NoMemory),
         Err(cause) => Ok(TrailAnswer::Rejected(cause)),
@@ -65,8 +66,8 @@ fn misread(fault: LogFault) -> Result<TrailAnswer, NoMemory>
     }
 }
 
-/// What a check of the bytes results in: whether they are the text of a certificate by trails that is accepted for the
-/// inputs.
+/// What a check of the bytes results in: whether they are the text of a certificate by trails, of either version, that
+/// is accepted for the inputs.
 pub(crate) fn answer_trails(
     alloc: Global,
     inputs: &Inputs,
@@ -77,7 +78,7 @@ pub(crate) fn answer_trails(
 {
     inputs.show_limits();
     let kinds = kinds(alloc, &inputs.fingers)?;
-    match read_trails(alloc, bytes, &inputs.cell.name, &kinds) {
+    match read_either(alloc, bytes, &inputs.cell.name, &kinds) {
         Ok(trails) => judge(alloc, inputs, &kinds, &trails),
         Err(fault) => misread(fault),
     }
@@ -118,7 +119,7 @@ pub(crate) fn trails_end(
     }
 }
 
-/// Whether the bytes are the text of a certificate by trails that is accepted for the inputs.
+/// Whether the bytes are the text of a certificate by trails, of either version, that is accepted for the inputs.
 pub fn check_by_trails(alloc: Global, inputs: &Inputs, bytes: &[u8]) -> Result<End, NoMemory>
     requires { length bytes.now ≤ MOST_BYTES }
     ensures { IfOk result (TrailChecksTo inputs.now bytes.now) }

@@ -31,6 +31,7 @@ use Rattle.cell_commands.specs.declared.certificate.Certificate.{Certificate}
 use Rattle.cell_commands.specs.declared.certificate.Certificate.TheVariants as held
 use Rattle.cell_commands.specs.Given.{IsListedBy, IsRefusedBy, MakesFromTo, given_evidence}
 use Rattle.cell_commands.specs.RowEnd.{IsRowEnd, RowEvidence}
+use Rattle.trail_either.specs.Either.{fill_count, lemma_count}
 use Rattle.cell_run.proofs.MadeFiles.{none_left}
 use Rattle.cell_run.proofs.MakeSettled.{IsDrawnBy, IsRowBy, by_end, row_leaves}
 use Rattle.cell_run.proofs.MakeTold.{row_cycles, row_draws, row_needs}
@@ -147,7 +148,7 @@ listed_accepted Log inputs bytes row (held.Log log) listed =
     (gaps_of row, length log.lemmas, (k, of_k, some_k, (log, lists.fits, lists.text, lists.accepted, refl)))
 listed_accepted Trails inputs bytes row (held.Trails found) listed =
     let (k, of_k, some_k, lists) = listed.listed in
-    (gaps_of row, length found.lemmas, length found.fill, (k, of_k, some_k, record { trails = found; fits = lists.fits; text = listed.text; accepted = lists.accepted; lemmas_are = refl; filled_are = refl }))
+    (gaps_of row, lemma_count found, fill_count found, (k, of_k, some_k, record { trails = found; fits = lists.fits; text = listed.text; accepted = lists.accepted; lemmas_are = refl; filled_are = refl }))
 listed_accepted Log inputs bytes row (held.Trails found) listed = absurd listed
 listed_accepted Trails inputs bytes row (held.Log log) listed = absurd listed
 

@@ -46,7 +46,7 @@ use Rattle.cell_run.specs.Evidence.{evidence_text}
 use Rattle.cell_run.specs.Headline.{IsCyclicCell, IsMadeCell, IsTallCell, IsUnmade}
 use Rattle.cell_run.specs.Low.{IsAskedLow, IsMakeLow, IsUnwiredCell}
 use Rattle.cell_run.specs.Origin.{CertifiesFewest, CertifiesLow, Low}
-use Rattle.trail_log.specs.declared.trails.TrailCertificate.{TrailCertificate}
+use Rattle.trail_either.specs.declared.evidence.TrailEvidence.{TrailEvidence}
 
 -- ---- what the words ask for
 
@@ -120,7 +120,7 @@ low_log : (inputs : Inputs) (row : List Column) (log : SearchLog) → IsLowCerti
 low_log inputs row log (inl is) = inl is
 low_log inputs row log (inr (least, more, found)) = inr (record { least = least; first = found.first; more = more; certified = found.certified })
 
-low_trails : (inputs : Inputs) (row : List Column) (trails : TrailCertificate) → IsLowCertifiedBy Trails inputs row (held.Trails trails) → CertifiesLow Trails inputs row trails
+low_trails : (inputs : Inputs) (row : List Column) (trails : TrailEvidence) → IsLowCertifiedBy Trails inputs row (held.Trails trails) → CertifiesLow Trails inputs row trails
 low_trails inputs row trails (inl is) = inl is
 low_trails inputs row trails (inr (least, more, found)) = inr (record { least = least; first = found.first; more = more; certified = found.certified })
 

@@ -1,4 +1,5 @@
--- The evidence of a row, by its kind: the log of a search, or a certificate by trails. Its file, and those beside it.
+-- The evidence of a row, by its kind: the log of a search, or a certificate by trails, of either version. Its file, and
+-- those beside it.
 use Rattle.std.specs.Prelude.{ℕ, ◌≡◌, ◌≢◌, ◌≤◌, List, ◌++◌, codes, length, Some}
 use Rattle.cell_io.specs.Desk.{Files}
 use Rattle.cell_num.specs.Lines.{count_line}
@@ -8,9 +9,9 @@ use Rattle.bound_log.specs.Text.{log_text}
 use Rattle.log_check.specs.Accepted.{ForKinds, WithKinds}
 use Rattle.row_search.specs.Enough.{enough}
 use Rattle.spice_net.specs.declared.subckt.Subckt.{Subckt}
-use Rattle.trail_log.specs.declared.trails.TrailCertificate.{TrailCertificate}
-use Rattle.trail_log.specs.Text.{trails_text}
-use Rattle.trail_search.specs.Ended.{IsCertified as IsCertifiedByTrails}
+use Rattle.trail_either.specs.declared.evidence.TrailEvidence.{TrailEvidence}
+use Rattle.trail_either.specs.Either.{either_text, fill_count, lemma_count as trail_lemmas}
+use Rattle.trail_either.specs.Ended.{IsEitherCertified}
 use Rattle.call_words.specs.declared.evidence.Evidence.{Evidence}
 use Rattle.call_words.specs.declared.evidence.Evidence.TheVariants.{Log, Trails}
 use Rattle.cell_inputs.specs.Inputs.{Inputs}
@@ -23,14 +24,14 @@ use Rattle.cell_commands.specs.Searched.{IsOpenByTrails}
 
 abbrev pub Certificate : Evidence → Type 0
 Certificate Log = SearchLog
-Certificate Trails = TrailCertificate
+Certificate Trails = TrailEvidence
 
 -- Its checker accepts it with the gaps of the row, and the row that it lists is this one. A log was found within the
 -- budget, too.
 abbrev pub Certifies : (evidence : Evidence) → Inputs → List Column → Certificate evidence → Type 0
 Certifies Log inputs row log = IsCertified inputs row log
 Certifies Trails inputs row trails =
-    WithKinds inputs.fingers (λ k. IsCertifiedByTrails k inputs.fingers row trails)
+    WithKinds inputs.fingers (λ k. IsEitherCertified k inputs.fingers row trails)
 
 -- it lists no row, and proves that many gaps of every row
 abbrev pub ProvesAlone : (evidence : Evidence) → Inputs → ℕ → Certificate evidence → Type 0
@@ -61,16 +62,16 @@ evidence_name Trails out = out ++ codes ".ctrail"
 -- the text of its file
 abbrev pub evidence_text : (evidence : Evidence) → List ℕ → Certificate evidence → List ℕ
 evidence_text Log name log = log_text name log
-evidence_text Trails name trails = trails_text name trails
+evidence_text Trails name trails = either_text name trails
 
 abbrev pub lemma_count : (evidence : Evidence) → Certificate evidence → ℕ
 lemma_count Log log = length log.lemmas
-lemma_count Trails trails = length trails.lemmas
+lemma_count Trails trails = trail_lemmas trails
 
 -- what the report of a drawn cell says of it: its lemmas, and the gates whose half columns are filled
 abbrev pub evidence_counts : (evidence : Evidence) → Certificate evidence → List ℕ
 evidence_counts Log log = count_line (codes "lemmas ") (length log.lemmas)
-evidence_counts Trails trails = counts_text (length trails.lemmas) (length trails.fill)
+evidence_counts Trails trails = counts_text (trail_lemmas trails) (fill_count trails)
 
 -- what the report of a plan says: the row, and of a certificate by trails its counts
 abbrev pub planned_text : (evidence : Evidence) → Subckt → List Column → Certificate evidence → List ℕ

@@ -8,7 +8,7 @@ pub returns-in-Ok : goal.returns-in-Ok
 returns-in-Ok c =
     judged_checks c.args.inputs.now c.args.bytes.now c.in_ok-kinds.kinds c.in-Ok.trails c.judge.result
     (subst (λ (inputs : Inputs). AreTextOf inputs c.args.bytes.now c.in_ok-kinds.kinds c.in-Ok.trails) c.inputs.view_is
-    (record { kinds = c.in_ok-kinds.ensures.kinds; some_kinds = c.in_ok-kinds.ensures.sound; read = c.in-Ok.ensures.trails; fits = c.in-Ok.ensures.fits; text = c.in-Ok.ensures.text; one = c.in-Ok.ensures.one }))
+    (record { kinds = c.in_ok-kinds.ensures.kinds; some_kinds = c.in_ok-kinds.ensures.sound; read = c.in-Ok.ensures.evidence; fits = c.in-Ok.ensures.fits; text = c.in-Ok.ensures.text; one = c.in-Ok.ensures.one }))
     c.judge.ensures
 
 pub returns : goal.returns

@@ -1,5 +1,5 @@
 use Rattle.std.proofs.Common.{rules, subst}
-use Rattle.trail_check.specs.Accepted.{IsNeverAccepted}
+use Rattle.trail_either.specs.Accepted.{IsNeverAccepted}
 use Rattle.cell_inputs.specs.Inputs.{Inputs}
 use Rattle.cell_commands.proofs.trail_checking.judge.Goals as goal
 
