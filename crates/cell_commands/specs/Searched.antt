@@ -43,7 +43,8 @@ IsOpenBy Log inputs proved (held.Log spent) = log.IsUnfinished inputs proved spe
 IsOpenBy Trails inputs proved (held.Trails spent) = IsOpenByTrails inputs proved spent
 IsOpenBy _ inputs proved _ = ⊥
 
--- The search ends at this gate, and finds no row with a certificate of either version. A search for a log never ends so.
+-- The search ends at this gate, and finds no row with a certificate of either version. A search for a log never ends
+-- so.
 abbrev pub Crowds : Evidence → Inputs → NetNo → Type 0
 Crowds Log inputs gate = ⊥
 Crowds Trails inputs gate = IsEitherCrowded inputs.fingers gate

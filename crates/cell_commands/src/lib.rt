@@ -1,4 +1,5 @@
-// What `plan`, `make` and `check` result in, with any evidence: a log, a certificate by trails of either version, or one of tracks.
+// What `plan`, `make` and `check` result in, with any evidence: a log, a certificate by trails of either version, or one
+// of tracks.
 #![tactic(auto)]
 
 mod best;
