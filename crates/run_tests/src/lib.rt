@@ -42,6 +42,8 @@ mod low_rows;
 #[cfg(test)]
 mod make;
 #[cfg(test)]
+mod open_trails;
+#[cfg(test)]
 mod rows;
 #[cfg(test)]
 mod setup;
