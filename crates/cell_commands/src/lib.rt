@@ -1,4 +1,4 @@
-// What `plan`, `make` and `check` result in, with any evidence: a log, a certificate by trails of either version, or one
+// What `plan`, `make` and `check` do: evidence by logs or by trails of either version, reports, drawings and files.
 // of tracks.
 #![tactic(auto)]
 

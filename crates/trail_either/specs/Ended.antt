@@ -62,7 +62,7 @@ pub record IsEitherSpent (f : Fingers) (budget : ℕ) (evidence : TrailEvidence)
   pub fits : WithKinds f (λ k. EitherFits k evidence)
   pub within : IsSpentWithin f budget evidence proved
 
--- A search for a certificate of version 1 ends at the gate. Those with pools before and after it end without a row, too.
+-- A search for a certificate of version 1 ends at the gate. Those with pools before and after it end without a row.
 pub record IsEitherCrowded (f : Fingers) (gate : NetNo) : Type 0 where
   pub ends : EndsPools f
   pub filled : IsCrowded f gate
