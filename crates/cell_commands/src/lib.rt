@@ -1,5 +1,5 @@
-// What `plan`, `make` and `check` do: evidence by logs or by trails of either version, reports, drawings and files.
-// of tracks.
+// What `plan`, `make` and `check` result in, with any evidence: a log, a certificate by trails of either version, or
+// one of tracks.
 #![tactic(auto)]
 
 mod best;
