@@ -1,7 +1,7 @@
 -- What is found by numbers of states is what a walk through all lemmas finds.
-use Rattle.std.specs.Prelude.{ℕ, ◌≡◌, ◌≢◌, ◌↔◌, ◌++◌, ◌⊎◌, Bool, false, List, [], ◌∷◌, Option, Some, None, Any, Contains, IsTrue, length, nat_eq, option_map, slice_get, unwrap_or}
+use Rattle.std.specs.Prelude.{ℕ, ◌≡◌, ◌≢◌, ◌↔◌, ◌++◌, ◌⊎◌, Bool, false, true, List, [], ◌∷◌, Option, Some, None, Any, Contains, IsTrue, MatchOption, length, nat_eq, option_map, slice_get, unwrap_or}
 use Rattle.std.specs.HashMap.{get}
-use Rattle.std.proofs.Common.{sym, ap, subst, arith, ◌∙◌, inl, inr}
+use Rattle.std.proofs.Common.{refl, sym, ap, subst, arith, ◌∙◌, inl, inr}
 use Rattle.std.proofs.lemmas.Bool.{cases_eq, cases_lt}
 use Rattle.std.proofs.lemmas.List.{get_or_append_left, get_or_push, length-append}
 use Rattle.std.proofs.lemmas.List.Elements.{Contains-append_left, Contains-push}
@@ -11,8 +11,7 @@ use Rattle.cell_num.proofs.Pairs.{Some', any_at, some_from_any}
 use Rattle.end_lemmas.specs.declared.lemma.EndLemma.{EndLemma}
 use Rattle.end_lemmas.specs.declared.index.LemmaIndex.{LemmaIndex}
 use Rattle.end_lemmas.specs.Indexed.{IsIndexOf, noted_at}
-use Rattle.end_lemmas.specs.Inner.{SaysAt}
-use Rattle.end_lemmas.specs.Justified.{IsKnown, Says}
+use Rattle.end_lemmas.specs.Justified.{IsKnown, Says, SaysAt}
 
 -- ---- what stands at a place
 
@@ -63,23 +62,33 @@ module _ {S : Type 0} (number : ℕ → S → ℕ) (lemmas : List (EndLemma S)) 
         any_at (SaysAt lemmas done s need) (noted_at index (number done s)) at noted
         (record { lemma = one.it; there = is; says = one.holds })
 
-    there : Any (SaysAt lemmas done s need) (noted_at index (number done s)) → Any (Says done s need) lemmas
-    there any =
-        let one : Some' (SaysAt lemmas done s need) (noted_at index (number done s)) =
-        some_from_any (SaysAt lemmas done s need) (noted_at index (number done s)) any in
-        any_at (Says done s need) lemmas one.holds.lemma
-        (contains_get lemmas one.it one.holds.lemma one.holds.there) one.holds.says
+    -- where no place of those noted says so, no lemma does
+    none_says : (places : List ℕ) → places ≡ noted_at index (number done s)
+        → (Any (SaysAt lemmas done s need) places → ⊥) → Any (Says done s need) lemmas → ⊥
+    none_says places is none any = none (subst (Any (SaysAt lemmas done s need)) (sym is) (found any))
 
-    -- where some ends are asked, and what these places say is told
-    pub known_by : (places : List ℕ) (b : Bool) → places ≡ noted_at index (number done s)
-        → ((need ≡ 0) → ⊥) → IsTrue b ↔ Any (SaysAt lemmas done s need) places
-        → IsTrue b ↔ IsKnown lemmas done s need
-    known_by places b is some (to, from) =
-        (λ on. inr (there (subst (Any (SaysAt lemmas done s need)) is (to on))), back)
+    pub place_by : (places : List ℕ) (place : Option ℕ) → places ≡ noted_at index (number done s)
+        → MatchOption place (Any (SaysAt lemmas done s need) places → ⊥) (SaysAt lemmas done s need)
+        → MatchOption place (Any (Says done s need) lemmas → ⊥) (SaysAt lemmas done s need)
+    place_by places None is none = none_says places is none
+    place_by places (Some at) is says = says
+
+  -- ---- one place is found, or none
+
+  module _ (done : ℕ) (s : S) (need : ℕ) where
+    pub known_at : (at : ℕ) → SaysAt lemmas done s need at → IsTrue true ↔ IsKnown lemmas done s need
+    known_at at one = (
+      λ _. inr (any_at (Says done s need) lemmas one.lemma (contains_get lemmas at one.lemma one.there) one.says),
+      λ _. refl,
+    )
+
+    pub unknown : ((need ≡ 0) → ⊥) → (Any (Says done s need) lemmas → ⊥)
+        → IsTrue false ↔ IsKnown lemmas done s need
+    unknown some none = (λ on. absurd cc, back)
       where
-        back : IsKnown lemmas done s need → IsTrue b
-        back (inl none) = absurd (some none)
-        back (inr any) = from (subst (Any (SaysAt lemmas done s need)) (sym is) (found any))
+        back : IsKnown lemmas done s need → IsTrue false
+        back (inl nothing) = absurd (some nothing)
+        back (inr any) = absurd (none any)
 
   -- ---- one is noted more
 

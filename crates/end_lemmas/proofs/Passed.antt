@@ -1,8 +1,8 @@
 -- What a loop over a list has passed so far, where a test decides a fact on each item.
-use Rattle.std.specs.Prelude.{ℕ, ◌≡◌, ◌+◌, ◌++◌, ◌<◌, ◌≤◌, ◌↔◌, Bool, true, false, List, [], ◌∷◌, All, Any, Contains, IsTrue, length, take}
+use Rattle.std.specs.Prelude.{ℕ, ◌≡◌, ◌+◌, ◌++◌, ◌<◌, ◌≤◌, ◌↔◌, Bool, true, false, List, [], ◌∷◌, All, Any, IsTrue, length, take}
 use Rattle.std.proofs.Common.{refl, sym, subst, ◌∙◌, inl, inr, get_or}
 use Rattle.std.proofs.lemmas.List.{take_all, take_more}
-use Rattle.std.proofs.lemmas.List.Elements.{All-more, Contains-get_or, Contains-push_cases}
+use Rattle.std.proofs.lemmas.List.Elements.{All-more, Contains-push_cases}
 use Rattle.cell_num.proofs.Lists.{contains_none}
 use Rattle.cell_num.proofs.Pairs.{Some', any_at, some_from_any}
 
@@ -31,10 +31,6 @@ module _ {X : Type 0} (P : X → Type 0) where
   -- the item at a place, what the test says of it, and the list so far
   module _ (xs : List X) (i : ℕ) (x : X) (b : Bool) (within : i < length xs) (is : x ≡ get_or xs i x)
       (decides : IsTrue b ↔ P x) where
-    pub one_found : b ≡ true → IsTrue true ↔ Any P xs
-    one_found on =
-        (λ _. any_at P xs x (subst (Contains xs) (sym is) (Contains-get_or xs i x within)) (decides.0 on), λ _. refl)
-
     pub none_more : NoneOf P (take i xs) → b ≡ false → NoneOf P (take (i + 1) xs)
     none_more before off =
         subst (NoneOf P) (sym (take_more xs i x within))
@@ -50,9 +46,8 @@ module _ {X : Type 0} (P : X → Type 0) where
         fails holds = told_off b decides off (subst P (sym is) (holds i x within))
 
   module _ (xs : List X) (i : ℕ) (past : length xs ≤ i) where
-    pub none_found : NoneOf P (take i xs) → IsTrue false ↔ Any P xs
-    none_found before =
-        (λ on. absurd cc, λ any. absurd (before (subst (Any P) (sym (take_all i xs past)) any)))
+    pub none_passed : NoneOf P (take i xs) → NoneOf P xs
+    none_passed before any = before (subst (Any P) (sym (take_all i xs past)) any)
 
     pub all_passed : (all : List X) → xs ≡ all → All P (take i xs) → IsTrue true ↔ All P all
     all_passed all same before = (λ _. subst (All P) (take_all i xs past ∙ same) before, λ _. refl)

@@ -11,6 +11,12 @@ module _ {S : Type 0} where
     pub same : lemma.state ≡ state
     pub enough : need ≤ lemma.bound
 
+  -- the lemma at the place says so
+  pub record SaysAt (lemmas : List (EndLemma S)) (done : ℕ) (state : S) (need at : ℕ) : Type 0 where
+    pub lemma : EndLemma S
+    pub there : slice_get lemmas at ≡ Some lemma
+    pub says : Says done state need lemma
+
   -- so many ends more are known to come: none, or as an earlier lemma says
   abbrev pub IsKnown : List (EndLemma S) → ℕ → S → ℕ → Type 0
   IsKnown earlier done state need = (need ≡ 0) ⊎ Any (Says done state need) earlier

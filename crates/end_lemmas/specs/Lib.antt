@@ -2,5 +2,3 @@
 pub mod Steps
 pub mod Justified
 pub mod Indexed
--- What inner contracts cite.
-pub mod Inner

@@ -1,10 +1,11 @@
 // Where lemmas stand in a list, so that those on a state are found without a walk through all of them.
-ghost use Rattle.std.specs.Prelude.{◌≡◌, ◌≢◌, ◌↔◌, ◌++◌, [], ◌∷◌, ℕ, IsTrue, Some, OnOk, nat_eq, option_map, unwrap_or};
+ghost use Rattle.std.specs.Prelude.{◌≡◌, ◌≢◌, ◌↔◌, ◌++◌, [], ◌∷◌, ℕ, Any, IsTrue, MatchOption, Some, OnOk, nat_eq};
+ghost use Rattle.std.specs.Prelude.{option_map, unwrap_or};
 ghost use Rattle.std.specs.HashMap.{get};
 ghost use Rattle.end_lemmas.specs.Indexed.{IsIndexOf, noted_at};
-ghost use Rattle.end_lemmas.specs.Justified.{IsKnown};
+ghost use Rattle.end_lemmas.specs.Justified.{IsKnown, Says, SaysAt};
 
-use crate::known::is_said_at_one;
+use crate::known::first_saying;
 use crate::{EndLemma, EndSteps};
 use cell_num::NoMemory;
 use std::alloc::Global;
@@ -74,6 +75,24 @@ impl LemmaIndex {
         }
     }
 
+    /// Where a lemma says that at least `need` more ends come from the state after the first `done` levels on; none,
+    /// where no lemma says so.
+    pub fn place<E: EndSteps>(
+        &self,
+        steps: &E,
+        lemmas: &[EndLemma<E::State>],
+        done: u64,
+        state: &E::State,
+        need: u64,
+    ) -> Option<usize>
+        requires { IsIndexOf E.number_of lemmas.now self.now }
+        ensures { MatchOption result (Any (Says done state.now need) lemmas.now → ⊥)
+            (SaysAt lemmas.now done state.now need) }
+    {
+        let places = self.noted_at(steps.number(done, state));
+        first_saying(steps, lemmas, done, state, need, places)
+    }
+
     /// Whether the lemmas say that at least `need` more ends come from the state after the first `done` levels on.
     pub fn knows<E: EndSteps>(
         &self,
@@ -89,7 +108,9 @@ impl LemmaIndex {
         if need == 0 {
             return true;
         }
-        let places = self.noted_at(steps.number(done, state));
-        is_said_at_one(steps, lemmas, done, state, need, places)
+        match self.place(steps, lemmas, done, state, need) {
+            Some(_) => true,
+            None => false,
+        }
     }
 }

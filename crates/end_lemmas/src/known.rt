@@ -1,6 +1,5 @@
-ghost use Rattle.std.specs.Prelude.{◌≡◌, ◌↔◌, ℕ, Any, IsTrue, Some, slice_get};
-ghost use Rattle.end_lemmas.specs.Justified.{AreEndsProved, IsAtStart, Says};
-ghost use Rattle.end_lemmas.specs.Inner.{SaysAt};
+ghost use Rattle.std.specs.Prelude.{◌↔◌, Any, IsTrue, MatchOption};
+ghost use Rattle.end_lemmas.specs.Justified.{AreEndsProved, IsAtStart, Says, SaysAt};
 
 use crate::{EndLemma, EndSteps};
 
@@ -35,23 +34,24 @@ fn is_said_at<E: EndSteps>(
     }
 }
 
-/// Whether a lemma at one of the places says so.
-pub(crate) fn is_said_at_one<E: EndSteps>(
+/// The first of the places where a lemma says so.
+pub(crate) fn first_saying<E: EndSteps>(
     steps: &E,
     lemmas: &[EndLemma<E::State>],
     done: u64,
     state: &E::State,
     need: u64,
     places: &[usize],
-) -> bool
-    ensures { IsTrue result ↔ Any (SaysAt lemmas.now done state.now need) places.now }
+) -> Option<usize>
+    ensures { MatchOption result (Any (SaysAt lemmas.now done state.now need) places.now → ⊥)
+        (SaysAt lemmas.now done state.now need) }
 {
     for at in places {
         if is_said_at(steps, lemmas, done, state, need, *at) {
-            return true;
+            return Some(*at);
         }
     }
-    false
+    None
 }
 
 fn is_at_start<E: EndSteps>(steps: &E, start: &E::State, lemma: &EndLemma<E::State>) -> bool

@@ -1,11 +1,14 @@
-use Rattle.std.proofs.Common.{◌≡◌, arith, ap, ◌∙◌}
-use Rattle.end_lemmas.specs.Indexed.{noted_at}
-use Rattle.end_lemmas.proofs.Found.{known_by}
+use Rattle.std.proofs.Common.{◌≡◌, arith}
+use Rattle.end_lemmas.proofs.Found.{known_at, unknown}
 use Rattle.end_lemmas.proofs.index.LemmaIndex.knows.Goals as goal
 
-pub returns : goal.returns
-returns g c =
+pub returns-in-Some : goal.returns-in-Some
+returns-in-Some g c =
+    known_at g.E.EndSteps.number_of c.args.lemmas.now c.args.done c.args.state.now c.args.need c.in-Some.field-0
+    (rw c.in-Some.is at c.place.ensures)
+
+pub returns-in-None : goal.returns-in-None
+returns-in-None g c =
     let some : c.args.need ≡ 0 → ⊥ = λ e. omega (arith, c.if-need-eq0.false, e) in
-    known_by g.E.EndSteps.number_of c.args.lemmas.now c.args.self.now c.args.done c.args.state.now c.args.need c.requires
-    c.noted_at-places.result.now c.is_said_at_one.result
-    (c.noted_at-places.ensures ∙ ap (noted_at c.args.self.now) c.number.ensures) some c.is_said_at_one.ensures
+    unknown g.E.EndSteps.number_of c.args.lemmas.now c.args.done c.args.state.now c.args.need some
+    (rw c.in-None.is at c.place.ensures)

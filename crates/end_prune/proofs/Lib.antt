@@ -1,0 +1,6 @@
+pub mod Sublists
+mod Marked
+mod Behind
+mod Support
+mod Walk
+mod Ends
