@@ -1,4 +1,4 @@
-mod Choices
+pub mod Choices
 mod Grown
 mod Kept
 mod Limits

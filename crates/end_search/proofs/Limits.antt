@@ -1,5 +1,5 @@
 -- One number of ends after another.
-use Rattle.std.specs.Prelude.{ℕ, ◌≡◌, ◌+◌, ◌-◌, ◌*◌, ◌<◌, ◌≤◌, List, [], ◌∷◌, ◌++◌, All, ◌/◌}
+use Rattle.std.specs.Prelude.{ℕ, ◌≡◌, ◌≢◌, ◌+◌, ◌-◌, ◌*◌, ◌<◌, ◌≤◌, List, [], ◌∷◌, ◌++◌, All, ◌/◌}
 use Rattle.std.proofs.Common.{refl, sym, ap, subst, arith, ◌∙◌, inl, inr}
 use Rattle.std.proofs.lemmas.List.Elements.{All-append, All-contains, All-nil, All-push, Contains-append_cases, Contains-push, Contains-push_cases}
 use Rattle.cell_num.proofs.Lists.{contains_none}
@@ -12,6 +12,7 @@ use Rattle.end_lemmas.proofs.Sound.{ends_true}
 use Rattle.end_search.specs.declared.progress.Progress.{Progress}
 use Rattle.end_search.specs.declared.proof.EndProof.{EndProof}
 use Rattle.end_search.specs.declared.proof.SearchEnd.{SearchEnd}
+use Rattle.end_search.specs.declared.proof.SearchEnd.TheVariants as ended
 use Rattle.end_search.specs.New.{AreNew}
 use Rattle.end_search.specs.Proof.{EndsAs, IsEndProof, gaps_proved, next_need, proof_of}
 use Rattle.end_search.specs.Reached.{HasFewer, IsReached}
@@ -157,13 +158,15 @@ module _ {L C S : Type 0} (steps : Steps L C S) (number : ℕ → S → ℕ) (le
       → gaps_proved ends ≡ gaps → All (IsReached steps levels 0 s (2 * gaps + 3)) p.lemmas
       → p.left + units_of steps levels p.lemmas ≤ budget
       → budget ≤ p.left + units_of steps levels p.lemmas + path_units steps levels
-      → EndsAs steps levels s most ends p.left end → IsEndProof steps levels s most budget proof
-  proof_is most p ends gaps end proof is kept are gaps_are reached few many so =
+      → EndsAs steps levels s most ends p.left end → (end ≢ ended.Asked → gaps < most)
+      → IsEndProof steps levels s most budget proof
+  proof_is most p ends gaps end proof is kept are gaps_are reached few many so more =
       subst (IsEndProof steps levels s most budget) (sym is) (record {
         justified = kept.justified;
         ends_are = are;
         least = ends_true steps levels p.lemmas s ends kept.justified are;
         end_is = so;
+        more_asked = λ other. omega (arith, gaps_are, more other);
         new = kept.new;
         reached = subst (λ (n : ℕ). All (IsReached steps levels 0 s n) p.lemmas) (ends_next ends gaps gaps_are) reached;
         few_units = few;
@@ -174,15 +177,17 @@ module _ {L C S : Type 0} (steps : Steps L C S) (number : ℕ → S → ℕ) (le
   pub proof_stopped : (most : ℕ) (a b : Progress S) (t : S) (ends gaps need : ℕ) (end : SearchEnd) (proof : EndProof S)
       → t ≡ s → proof ≡ proof_of b.lemmas ends b.left end → HasProved a ends gaps → need ≡ 2 * gaps + 3
       → IsFurther steps number levels 0 t need a b → AreSpent steps levels a b (path_units steps levels)
-      → EndsAs steps levels s most ends b.left end → IsEndProof steps levels s most budget proof
-  proof_stopped most a b t ends gaps need end proof same is h at g0 spent so =
+      → EndsAs steps levels s most ends b.left end → gaps < most → IsEndProof steps levels s most budget proof
+  proof_stopped most a b t ends gaps need end proof same is h at g0 spent so more =
       let g : IsFurther steps number levels 0 s need a b = subst (λ (u : S). IsFurther steps number levels 0 u need a b) same g0 in
       proof_is most b ends gaps end proof is g.kept (still_proved a b ends gaps need h g) h.gaps_are
       (reached_all a b ends gaps need h at g) (omega (arith, spent.few, h.units)) (omega (arith, spent.many, h.units)) so
+      (λ other. more)
 
   -- at the last number
-  pub proof_whole : (most : ℕ) (p : Progress S) (ends gaps : ℕ) (end : SearchEnd) (proof : EndProof S)
-      → proof ≡ proof_of p.lemmas ends p.left end → HasProved p ends gaps
-      → EndsAs steps levels s most ends p.left end → IsEndProof steps levels s most budget proof
-  proof_whole most p ends gaps end proof is h so =
-      proof_is most p ends gaps end proof is h.kept h.ends_are h.gaps_are h.reached (omega (arith, h.units)) (omega (arith, h.units)) so
+  pub proof_whole : (most : ℕ) (p : Progress S) (ends gaps : ℕ) (proof : EndProof S)
+      → proof ≡ proof_of p.lemmas ends p.left ended.Asked → HasProved p ends gaps → gaps_proved ends ≡ most
+      → IsEndProof steps levels s most budget proof
+  proof_whole most p ends gaps proof is h so =
+      proof_is most p ends gaps ended.Asked proof is h.kept h.ends_are h.gaps_are h.reached (omega (arith, h.units))
+      (omega (arith, h.units)) so (λ other. absurd (other refl))

@@ -1,5 +1,5 @@
 -- What a search proves, and how it ends.
-use Rattle.std.specs.Prelude.{ℕ, ◌≡◌, ◌≤◌, ◌+◌, ◌-◌, ◌*◌, ◌/◌, List, All}
+use Rattle.std.specs.Prelude.{ℕ, ◌≡◌, ◌≢◌, ◌≤◌, ◌<◌, ◌+◌, ◌-◌, ◌*◌, ◌/◌, List, All}
 use Rattle.end_lemmas.specs.declared.lemma.EndLemma.{EndLemma}
 use Rattle.end_lemmas.specs.Justified.{AreEndsProved, AreJustified}
 use Rattle.end_lemmas.specs.Steps.{Ends, Steps}
@@ -26,13 +26,14 @@ module _ {L C S : Type 0} (steps : Steps L C S) (levels : List L) (start : S) (g
   EndsAs ends left ended.Spent = left ≡ 0
 
   -- Lemmas that prove its ends. Each is justified by those before it, says more than they do, and is on a state that
-  -- choices lead to while fewer ends are looked for than prove a gap more. The units of the budget went for states of
-  -- lemmas, but for at most one state before each level.
+  -- choices lead to while fewer ends are looked for than prove a gap more. Unless as many gaps as asked are proved, it
+  -- is fewer. The units of the budget went for states of lemmas, but for at most one state before each level.
   pub record IsEndProof (budget : ℕ) (proof : EndProof S) : Type 0 where
     pub justified : AreJustified steps levels proof.lemmas
     pub ends_are : AreEndsProved start proof.lemmas proof.ends
     pub least : Ends steps levels start proof.ends
     pub end_is : EndsAs proof.ends proof.left proof.end
+    pub more_asked : proof.end ≢ ended.Asked → gaps_proved proof.ends < gaps
     pub new : AreNew proof.lemmas
     pub reached : All (IsReached steps levels 0 start (next_need proof.ends)) proof.lemmas
     pub few_units : proof.left + units_of steps levels proof.lemmas ≤ budget

@@ -1,11 +1,13 @@
-ghost use Rattle.std.specs.Prelude.{◌≤◌, IfOk, length};
+ghost use Rattle.std.specs.Prelude.{◌≢◌, ◌≤◌, ◌<◌, IfOk, length};
 ghost use Rattle.cell_num.specs.Fingers.{AreFingers};
 ghost use Rattle.trail_pools.specs.Leveled.{levels_of};
 ghost use Rattle.trail_pools.specs.State.{start};
 ghost use Rattle.trail_state.specs.Levels.{IsOrder};
 ghost use Rattle.pool_check.specs.Accepted.{IsAccepted};
 ghost use Rattle.pool_check.specs.Stepping.{steps_of};
+ghost use Rattle.end_search.specs.declared.proof.SearchEnd.TheVariants as ended;
 ghost use Rattle.end_search.specs.Proof.{IsEndProof};
+ghost use Rattle.end_enough.specs.Enough.{enough_of};
 
 use crate::walk::PoolWalk;
 use cell_num::{Fingers, NetNo, NoMemory};
@@ -34,6 +36,9 @@ pub fn search_pools(
     // where the order has each gate of a finger once, `check_pools` of pool_check accepts them with these ends
     ensures accepted { IsOrder fingers.now order.now → IfOk result (λ proof.
         IsAccepted fingers.now opened.now order.now proof.lemmas proof.ends) }
+    // a budget that is more than enough is not spent
+    ensures enough { enough_of (steps_of fingers.now opened.now) (levels_of fingers.now opened.now order.now) start gaps
+        < budget → IfOk result (λ proof. proof.end ≢ ended.Spent) }
 {
     let pools = Pools::of(alloc, fingers, opened)?;
     let walk = PoolWalk {

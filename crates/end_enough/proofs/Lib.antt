@@ -1,0 +1,4 @@
+mod Apart
+mod Bounded
+mod Led
+pub mod Few

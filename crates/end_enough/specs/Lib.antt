@@ -1,0 +1,2 @@
+-- What contracts of public calls cite.
+pub mod Enough
