@@ -24,16 +24,16 @@ file_name (LefFile name) = name
 file_name (TrailFile name) = name
 file_name (TrackFile name) = name
 
--- the most bytes of a file: 4 MiB, 512 MiB for a log, and 64 MiB for a GDSII file, a LEF file and a certificate by
--- trails or of tracks
+-- the most bytes of a file: 4 MiB, 512 MiB for a log and a certificate by trails or of tracks, and 64 MiB for a GDSII
+-- file and a LEF file
 abbrev pub most_bytes : Source → ℕ
 most_bytes (TechFile name) = 4194304
 most_bytes (SpiceFile name) = 4194304
 most_bytes (LogFile name) = 536870912
 most_bytes (GdsFile name) = 67108864
 most_bytes (LefFile name) = 67108864
-most_bytes (TrailFile name) = 67108864
-most_bytes (TrackFile name) = 67108864
+most_bytes (TrailFile name) = 536870912
+most_bytes (TrackFile name) = 536870912
 
 -- the bytes of a file that is there and within its limit
 abbrev pub within : List ℕ → ℕ → Option (List ℕ) → Result (List ℕ) Refusal

@@ -76,8 +76,8 @@ fn most_bytes(source: Source<'_>) -> u64
 {
     match source {
         Source::Tech(_) | Source::Spice(_) => 4_194_304,
-        Source::Log(_) => 536_870_912,
-        Source::Gds(_) | Source::Lef(_) | Source::Trails(_) | Source::Tracks(_) => 67_108_864,
+        Source::Log(_) | Source::Trails(_) | Source::Tracks(_) => 536_870_912,
+        Source::Gds(_) | Source::Lef(_) => 67_108_864,
     }
 }
 
