@@ -27,10 +27,11 @@ use Rattle.trail_search.proofs.Certified.{few_gaps, first_least, gaps_are, row_g
 use Rattle.trail_pools.specs.declared.state.PoolState.{PoolState}
 use Rattle.trail_pools.specs.Leveled.{levels_of}
 use Rattle.trail_pools.specs.State.{start}
+use Rattle.end_lemmas.specs.Justified.{AreEndsProved}
 use Rattle.end_search.specs.declared.proof.EndProof.{EndProof}
 use Rattle.end_search.specs.declared.proof.SearchEnd.{SearchEnd}
 use Rattle.end_search.specs.declared.proof.SearchEnd.TheVariants as ended
-use Rattle.end_search.specs.Proof.{EndsAs, IsEndProof, next_need}
+use Rattle.end_search.specs.Proof.{EndsAs, next_need}
 use Rattle.end_search.specs.Reached.{HasFewer}
 use Rattle.order_log.specs.declared.certificate.OrderCertificate.{OrderCertificate}
 use Rattle.pool_log.specs.declared.lemma.PoolLine.{PoolLine}
@@ -40,6 +41,7 @@ use Rattle.pool_check.proofs.Low.{accepted_low}
 use Rattle.pool_certificate.specs.Accepted.{lemmas_of, open_of}
 use Rattle.pool_trails.specs.declared.gates.PoolGates.{PoolGates}
 use Rattle.pool_trails.specs.declared.opening.Opening.{Opening}
+use Rattle.pool_trails.specs.Found.{AreLeftOut}
 use Rattle.pool_trails.specs.Ended.{IsPoolCertified, IsPoolFound, IsPooledInVain, IsPoolSpent, WentForRow}
 use Rattle.pool_trails.specs.Inner.{IsPoolProof, with_best}
 use Rattle.pool_trails.specs.Opening.{is_uncrowded, opened_of}
@@ -60,14 +62,36 @@ module _ (f : Fingers) (gates : PoolGates) (k : Kinds) (budget : ℕ) (proof : E
   open_is : open_of f pools ≡ opened_of gates.opening f pools.order
   open_is = ap (λ (gs : List NetNo). open_in f gs pools.order) p.searched.fill
 
-  found : IsEndProof (steps_of f (open_of f pools)) (levels_of f (open_of f pools) pools.order) start 31 budget proof
-  found = subst (λ (o : OpenGates). IsEndProof (steps_of f o) (levels_of f o pools.order) start 31 budget proof)
-      (sym open_is) p.searched.found
+  abbrev before : EndProof PoolState
+  before = p.searched.found.whole
+
+  stays : AreLeftOut (steps_of f (open_of f pools)) (levels_of f (open_of f pools) pools.order) before proof
+  stays = subst (λ (o : OpenGates). AreLeftOut (steps_of f o) (levels_of f o pools.order) before proof)
+      (sym open_is) p.searched.found.stays
+
+  ends_are : AreEndsProved start proof.lemmas proof.ends
+  ends_are =
+      subst (AreEndsProved start proof.lemmas) (sym stays.ends)
+      (stays.pruned.ends before.ends p.searched.found.found.ends_are)
+
+  -- so the search ended
+  ends_as : EndsAs (steps_of f (opened_of gates.opening f pools.order))
+      (levels_of f (opened_of gates.opening f pools.order) pools.order) start 31 proof.ends proof.left proof.end
+  ends_as =
+      subst (λ (ends : ℕ). EndsAs (steps_of f (opened_of gates.opening f pools.order))
+      (levels_of f (opened_of gates.opening f pools.order) pools.order) start 31 ends proof.left proof.end)
+      (sym stays.ends)
+      (subst (λ (left : ℕ). EndsAs (steps_of f (opened_of gates.opening f pools.order))
+      (levels_of f (opened_of gates.opening f pools.order) pools.order) start 31 before.ends left proof.end)
+      (sym stays.left)
+      (subst (λ (end : SearchEnd). EndsAs (steps_of f (opened_of gates.opening f pools.order))
+      (levels_of f (opened_of gates.opening f pools.order) pools.order) start 31 before.ends before.left end)
+      (sym stays.end) p.searched.found.found.end_is))
 
   -- the lemmas are accepted
   accepted : AreAccepted f (open_of f pools) pools.order (lemmas_of f pools) proof.ends
   accepted = subst (λ ls. AreAccepted f (open_of f pools) pools.order ls proof.ends) (sym p.searched.listed)
-      (record { gates = p.order; justified = found.justified; proved = found.ends_are })
+      (record { gates = p.order; justified = stays.pruned.justified; proved = ends_are })
 
   low : IsLow f (gaps_proved proof.ends)
   low = accepted_low f (open_of f pools) pools.order (lemmas_of f pools) ok proof.ends accepted
@@ -132,9 +156,9 @@ module _ (f : Fingers) (gates : PoolGates) (k : Kinds) (budget : ℕ) (proof : E
   -- the search for lemmas left no units
   lemmas_spent_at : proof.end ≡ ended.Spent → IsPoolSpent gates.opening f budget pools (gaps_proved proof.ends)
   lemmas_spent_at e = spent_is (inl (subst (λ (z : SearchEnd).
-      EndsAs (steps_of f (open_of f pools)) (levels_of f (open_of f pools) pools.order) start 31 proof.ends
-      proof.left z)
-      e found.end_is))
+      EndsAs (steps_of f (opened_of gates.opening f pools.order))
+      (levels_of f (opened_of gates.opening f pools.order) pools.order) start 31 proof.ends proof.left z)
+      e ends_as))
 
   -- the searches for a row left none
   row_spent_at : WentForRow k (gaps_proved proof.ends + 1) gates.uncrowded proof.left (columns_left k (start_of k))
@@ -155,7 +179,7 @@ module _ (f : Fingers) (gates : PoolGates) (k : Kinds) (budget : ℕ) (proof : E
     order = pools.order;
     is = p.order;
     ends = proof.ends;
-    most = most_by gates.opening f pools.order proof.ends proof.left proof.end p.searched.found.end_is whole few_enough;
+    most = most_by gates.opening f pools.order proof.ends proof.left proof.end ends_as whole few_enough;
     more = more;
   }
     where

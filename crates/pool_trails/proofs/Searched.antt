@@ -17,7 +17,7 @@ use Rattle.trail_pools.specs.declared.state.PoolState.{PoolState}
 use Rattle.trail_pools.specs.Leveled.{levels_of, pools_of}
 use Rattle.trail_pools.specs.State.{start}
 use Rattle.end_lemmas.specs.declared.lemma.EndLemma.{EndLemma}
-use Rattle.end_lemmas.specs.Justified.{IsUnproved}
+use Rattle.end_lemmas.specs.Justified.{AreJustified, IsUnproved}
 use Rattle.end_search.specs.declared.proof.EndProof.{EndProof}
 use Rattle.end_search.specs.Proof.{IsEndProof}
 use Rattle.order_log.specs.declared.certificate.OrderCertificate.{OrderCertificate}
@@ -30,12 +30,12 @@ use Rattle.pool_check.specs.declared.refusal.PoolRefusal.TheVariants as cause
 use Rattle.pool_check.specs.Accepted.{HasFewWays, first_with_many}
 use Rattle.pool_check.specs.Refusal.{Refuses}
 use Rattle.pool_check.specs.Along.{IsAlong}
-use Rattle.pool_check.specs.Stepping.{steps_of}
+use Rattle.pool_check.specs.Stepping.{pool_steps, steps_of}
 use Rattle.pool_certificate.specs.Accepted.{lemmas_along, lemmas_of, open_of}
 use Rattle.pool_trails.specs.declared.found.PoolStop.{PoolStop}
 use Rattle.pool_trails.specs.declared.gates.PoolGates.{PoolGates}
 use Rattle.pool_trails.specs.Ended.{HasManyOpen, IsSearched, IsUnlisted}
-use Rattle.pool_trails.specs.Found.{IsFoundAlong, certificate_of, line_at}
+use Rattle.pool_trails.specs.Found.{AreLeftOut, IsFoundAlong, certificate_of, line_at}
 use Rattle.pool_trails.specs.Inner.{ArePoolGates, AreUnlistedAlong, IsPoolProof, ListAlong, Stops, lined, stop_of}
 use Rattle.pool_trails.specs.Opening.{fill_by, is_uncrowded, opened_of}
 
@@ -73,11 +73,7 @@ module _ (f : Fingers) (gates : PoolGates) (g : ArePoolGates f gates) where
 
   module _ (k : Kinds) (along : PoolOrder) (budget : ℕ) (proof : EndProof PoolState)
       (a : IsAlong f (opened_of gates.opening f gates.order) gates.order along)
-      (found : IsEndProof (steps_of f gates.opened) (levels_of f gates.opened gates.order) start 31 budget proof) where
-    found_along : IsFoundAlong gates.opening f gates.order budget proof
-    found_along = subst (λ (o : OpenGates). IsEndProof (steps_of f o) (levels_of f o gates.order) start 31 budget proof)
-        g.open_are found
-
+      (found : IsFoundAlong gates.opening f gates.order budget proof) where
     module _ (pools : OrderCertificate PoolLine) (l : ListAlong along gates proof.lemmas pools) where
       open_same : opened_of gates.opening f gates.order ≡ open_of f pools
       open_same =
@@ -99,7 +95,7 @@ module _ (f : Fingers) (gates : PoolGates) (g : ArePoolGates f gates) where
       searched = record {
         fill = l.fill ∙ g.filled ∙ ap (fill_by gates.opening f) (sym l.order);
         listed = listed_same;
-        found = subst (λ (gs : List NetNo). IsFoundAlong gates.opening f gs budget proof) (sym l.order) found_along;
+        found = subst (λ (gs : List NetNo). IsFoundAlong gates.opening f gs budget proof) (sym l.order) found;
       }
 
       few_ways : HasFewWays f (open_of f pools) pools.order
@@ -141,7 +137,7 @@ module _ (f : Fingers) (gates : PoolGates) (g : ArePoolGates f gates) where
       is = g.is;
       budget = budget;
       proof = proof;
-      found = found_along;
+      found = found;
       none = (
         k,
         of_f,
@@ -154,21 +150,44 @@ module _ (f : Fingers) (gates : PoolGates) (g : ArePoolGates f gates) where
     }
 
 module _ (f : Fingers) (gates : PoolGates) (g : ArePoolGates f gates) (k : Kinds) (along : PoolOrder) (budget : ℕ)
-    (proof : EndProof PoolState) (order : List NetNo) (lemmas : List (EndLemma PoolState)) (same : order ≡ gates.order)
-    (listed : lemmas ≡ proof.lemmas) (a : IsAlong f (opened_of gates.opening f gates.order) gates.order along)
-    (found : IsEndProof (steps_of f gates.opened) (levels_of f gates.opened order) start 31 budget proof)
-    (of_f : AreKinds f k) (kinds : AreSomeKinds k) where
-  found_there : IsEndProof (steps_of f gates.opened) (levels_of f gates.opened gates.order) start 31 budget proof
-  found_there = subst (λ (gs : List NetNo). IsEndProof (steps_of f gates.opened) (levels_of f gates.opened gs) start 31
-      budget proof) same found
-
+    (proof : EndProof PoolState) (lemmas : List (EndLemma PoolState)) (listed : lemmas ≡ proof.lemmas)
+    (a : IsAlong f (opened_of gates.opening f gates.order) gates.order along)
+    (found : IsFoundAlong gates.opening f gates.order budget proof) (of_f : AreKinds f k) (kinds : AreSomeKinds k) where
   pub unlisted_by : AreUnlistedAlong k along gates lemmas → IsUnlisted gates.opening f
   unlisted_by none =
-      unlisted f gates g k along budget proof a found_there of_f kinds
+      unlisted f gates g k along budget proof a found of_f kinds
       (subst (AreUnlistedAlong k along gates) listed none)
 
   pub proof_by : (pools : OrderCertificate PoolLine) → PoolsFit k pools → ListAlong along gates lemmas pools
       → IsPoolProof f gates k budget proof pools
   proof_by pools fits l =
-      is_proof f gates g k along budget proof a found_there pools
+      is_proof f gates g k along budget proof a found pools
       (subst (λ (ls : List (EndLemma PoolState)). ListAlong along gates ls pools) listed l) of_f kinds fits
+
+-- What a search finds, once pruned along the steps and levels of an order, is found along it.
+module _ (f : Fingers) (gates : PoolGates) (g : ArePoolGates f gates) (along : PoolOrder) (budget : ℕ)
+    (whole proof : EndProof PoolState) (a : IsAlong f (opened_of gates.opening f gates.order) gates.order along) where
+  found_whole : IsEndProof (steps_of f gates.opened) (levels_of f gates.opened gates.order) start 31 budget whole
+      → IsEndProof (steps_of f (opened_of gates.opening f gates.order))
+      (levels_of f (opened_of gates.opening f gates.order) gates.order) start 31 budget whole
+  found_whole found =
+      subst (λ (o : OpenGates). IsEndProof (steps_of f o) (levels_of f o gates.order) start 31 budget whole) g.open_are
+      found
+
+  -- the lemmas that it found are justified along these
+  pub justified_along : IsEndProof (steps_of f gates.opened) (levels_of f gates.opened gates.order) start 31 budget whole
+      → AreJustified (pool_steps along.steps.pools) along.levels whole.lemmas
+  justified_along found =
+      subst (λ (ps : Pools). AreJustified (pool_steps ps) along.levels whole.lemmas) (sym a.pools)
+      (subst (λ (ls : List PoolLevel). AreJustified (steps_of f (opened_of gates.opening f gates.order)) ls whole.lemmas)
+      (sym a.levels) (found_whole found).justified)
+
+  pub found_pruned : IsEndProof (steps_of f gates.opened) (levels_of f gates.opened gates.order) start 31 budget whole
+      → AreLeftOut (pool_steps along.steps.pools) along.levels whole proof
+      → IsFoundAlong gates.opening f gates.order budget proof
+  found_pruned found stays = record {
+    whole = whole;
+    found = found_whole found;
+    stays = subst (λ (ls : List PoolLevel). AreLeftOut (steps_of f (opened_of gates.opening f gates.order)) ls whole
+        proof) a.levels (subst (λ (ps : Pools). AreLeftOut (pool_steps ps) along.levels whole proof) a.pools stays);
+  }

@@ -3,6 +3,7 @@
 
 mod found;
 mod gates;
+mod lemmas;
 mod listed;
 mod opening;
 mod row;

@@ -7,6 +7,7 @@ ghost use Rattle.pool_trails.specs.Ended.{IsPoolFound, IsPoolStopped};
 ghost use Rattle.pool_trails.specs.Inner.{ArePoolGates, IsPoolProof, with_best};
 
 use crate::gates::{PoolGates, along, pool_gates};
+use crate::lemmas::lemmas_along;
 use crate::listed::listed;
 use crate::row::row_within;
 use crate::{Opening, PoolFound, PoolStop};
@@ -14,13 +15,9 @@ use bound_log::Best;
 use cell_num::{Fingers, Halt};
 use end_search::{EndProof, SearchEnd};
 use pool_log::PoolCertificate;
-use pool_search::search_pools;
 use row_state::{Kinds, kinds};
 use std::alloc::Global;
 use trail_pools::PoolState;
-
-/// No row has more gaps.
-const MOST_GAPS: u16 = 31;
 
 fn with_row(pools: PoolCertificate, best: Best) -> PoolCertificate
     ensures { result ≡ with_best pools best }
@@ -92,8 +89,7 @@ fn search_along(
 {
     let kinds = kinds(alloc, fingers)?;
     let along = along(alloc, fingers, gates)?;
-    let order = gates.order.as_slice();
-    let proof = search_pools(alloc, fingers, &gates.opened, order, MOST_GAPS, budget)?;
+    let proof = lemmas_along(alloc, fingers, gates, &along, budget)?;
     let listed = listed(alloc, &kinds, &along, gates, proof.lemmas.as_slice())?;
     let Some(pools) = listed else {
         return Err(PoolStop::Crowded);
@@ -103,7 +99,8 @@ fn search_along(
 
 /// The first least arrangement of the fingers, and a certificate with the balances of pools that proves that none has
 /// fewer gaps; or what is proved when the budget is spent. Half columns stay open as `opening` says. Lemmas are looked
-/// for first, by `search_pools`, then a row of as many gaps as they prove, with the units that are left. Where no gate
+/// for first, by `search_pools`; those that nothing rests on are left out. Then a row of as many gaps as they prove is
+/// looked for, with the units that are left. Where no gate
 /// has too many ways to be filled, half of these go for a search that tries no trails at the states of a row; where it
 /// spends them, the others go for a search that does. Else all go for the first. It ends without a row where a gate has
 /// too many ways even so, or where each arrangement has more gaps.

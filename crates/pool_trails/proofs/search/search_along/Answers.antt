@@ -9,8 +9,8 @@ returns-in_default-clause-stopped c =
     let none : AreUnlistedAlong c.in_ok-kinds.kinds c.in_ok-along.along c.args.gates.now c.as_slice.result.now =
     rw c.in_default.is at c.in_ok-listed.ensures.none in
     inr (inr (unlisted_by c.args.fingers.now c.args.gates.now c.requires.gates c.in_ok-kinds.kinds
-    c.in_ok-along.along c.args.budget c.in_ok-proof.proof c.as_slice-order.result.now c.as_slice.result.now
-    c.as_slice-order.ensures c.as_slice.ensures c.in_ok-along.ensures.along c.in_ok-proof.ensures.proof
+    c.in_ok-along.along c.args.budget c.in_ok-proof.proof c.as_slice.result.now
+    c.as_slice.ensures c.in_ok-along.ensures.along c.in_ok-proof.ensures
     c.in_ok-kinds.ensures.kinds c.in_ok-kinds.ensures.sound none))
 
 pub row_of-requires-clause-proof : goal.row_of-requires-clause-proof
@@ -19,6 +19,6 @@ row_of-requires-clause-proof c =
     let listed : ListAlong c.in_ok-along.along c.args.gates.now c.as_slice.result.now c.in-Some.pools =
     rw c.in-Some.is at c.in_ok-listed.ensures.listed in
     proof_by c.args.fingers.now c.args.gates.now c.requires.gates c.in_ok-kinds.kinds c.in_ok-along.along
-    c.args.budget c.in_ok-proof.proof c.as_slice-order.result.now c.as_slice.result.now c.as_slice-order.ensures
-    c.as_slice.ensures c.in_ok-along.ensures.along c.in_ok-proof.ensures.proof c.in_ok-kinds.ensures.kinds
+    c.args.budget c.in_ok-proof.proof c.as_slice.result.now
+    c.as_slice.ensures c.in_ok-along.ensures.along c.in_ok-proof.ensures c.in_ok-kinds.ensures.kinds
     c.in_ok-kinds.ensures.sound c.in-Some.pools fits listed
