@@ -66,15 +66,18 @@ module _ {L C S : Type 0} (steps : Steps L C S) where
       set : IsSet earlier says.lemma old new
       set = subst (IsSet earlier says.lemma old) (sym is) (one_set old earlier at says.lemma same says.there)
 
-      pub one_marked : length new ≡ length old → AreMarkedFor steps level lemma earlier old new
-      one_marked long = record { same = long; still = set.still; added = λ x there. from x (set.added x there) }
+      pub one_marked : (need ≡ 0 → ⊥) → length new ≡ length old → AreMarkedFor steps level lemma earlier old new
+      one_marked some long = record { same = long; still = set.still; added = λ x there. from x (set.added x there) }
         where
+          needed : steps.ends level lemma.state choice < lemma.bound
+          needed = omega (arith, n.left, some)
+
           from : (x : EndLemma S) → Contains (marked old earlier) x ⊎ (says.lemma ≡ x)
               → Contains (marked old earlier) x ⊎ IsBehind steps level lemma x
           from x (inl before) = inl before
           from x (inr same) =
               inr (subst (IsBehind steps level lemma) same
-              (record { choice = choice; within = n.within; says = says_there says.lemma says.says }))
+              (record { choice = choice; within = n.within; needed = needed; says = says_there says.lemma says.says }))
 
       pub one_reached : Reaches steps (marked new earlier) level lemma choice
       one_reached =

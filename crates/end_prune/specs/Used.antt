@@ -1,5 +1,5 @@
 -- What each lemma that stays is there for.
-use Rattle.std.specs.Prelude.{ℕ, ◌≡◌, ◌+◌, ◌-◌, ◌⊎◌, List, [], ◌∷◌, Some, Any, Contains, slice_get}
+use Rattle.std.specs.Prelude.{ℕ, ◌≡◌, ◌+◌, ◌-◌, ◌<◌, ◌⊎◌, List, [], ◌∷◌, Some, Any, Contains, slice_get}
 use Rattle.end_lemmas.specs.declared.lemma.EndLemma.{EndLemma}
 use Rattle.end_lemmas.specs.Justified.{IsAtStart, Says}
 use Rattle.end_lemmas.specs.Steps.{Steps}
@@ -9,10 +9,12 @@ abbrev pub ProvesEnds : {S : Type 0} → S → ℕ → EndLemma S → Type 0
 ProvesEnds start ends lemma = IsAtStart start lemma × (lemma.bound ≡ ends)
 
 module _ {L C S : Type 0} (steps : Steps L C S) where
-  -- a choice of the level leads from the state of the later lemma to that of this one, which says as much as is needed
+  -- A choice of the level leads from the state of the later lemma to that of this one. It makes fewer ends certain than
+  -- the later one says, and this one says the others.
   pub record IsBehind (level : L) (later lemma : EndLemma S) : Type 0 where
     pub choice : C
     pub within : Contains (steps.choices level) choice
+    pub needed : steps.ends level later.state choice < later.bound
     pub says : Says (later.done + 1) (steps.next level later.state choice)
         (later.bound - steps.ends level later.state choice) lemma
 

@@ -14,7 +14,7 @@ use Rattle.trail_search.specs.Filling.{is_uneven, uneven_gates}
 use Rattle.pool_trails.specs.declared.opening.Opening.TheVariants.{Crowded, Longer}
 use Rattle.pool_trails.specs.Ended.{IsPoolCertified, IsPoolFound, IsPoolSpent}
 use Rattle.trail_either.specs.declared.evidence.TrailEvidence.TheVariants.{Filled, Pools}
-use Rattle.trail_either.specs.Ended.{EndsPools, IsEitherCertified, IsEitherFound, IsEitherSpent}
+use Rattle.trail_either.specs.Ended.{EndsPools, HasHalfColumns, IsEitherCertified, IsEitherFound, IsEitherSpent}
 
 filled_certified : (f : Fingers) (row : List Column) (trails : TrailCertificate) →
     WithKinds f (λ k. IsCertified k f row trails) → WithKinds f (λ k. IsEitherCertified k f row (Filled trails))
@@ -32,10 +32,10 @@ module _ (f : Fingers) (budget : ℕ) (row : List Column) where
   filled_found trails ends is =
       record { first = is.first; certified = filled_certified f row trails is.certified; within = (ends, is) }
 
-  pub longer_found : (pools : OrderCertificate PoolLine) → IsPoolFound Longer f budget row pools
+  pub longer_found : (pools : OrderCertificate PoolLine) → HasHalfColumns f → IsPoolFound Longer f budget row pools
       → IsEitherFound f budget row (Pools pools)
-  longer_found pools is =
-      record { first = is.first; certified = pools_certified f row pools is.certified; within = inl is }
+  longer_found pools some is =
+      record { first = is.first; certified = pools_certified f row pools is.certified; within = inl (some, is) }
 
   pub crowded_found : (pools : OrderCertificate PoolLine) (gate : NetNo) → EndsPools f → IsCrowded f gate
       → IsPoolFound Crowded f budget row pools → IsEitherFound f budget row (Pools pools)
@@ -51,9 +51,10 @@ module _ (f : Fingers) (budget proved : ℕ) where
   filled_spent trails ends is =
       record { lists_none = is.lists_none; low = is.low; fits = is.fits; within = (ends, is) }
 
-  pub longer_spent : (pools : OrderCertificate PoolLine) → IsPoolSpent Longer f budget pools proved
+  pub longer_spent : (pools : OrderCertificate PoolLine) → HasHalfColumns f → IsPoolSpent Longer f budget pools proved
       → IsEitherSpent f budget (Pools pools) proved
-  longer_spent pools is = record { lists_none = is.lists_none; low = is.low; fits = is.fits; within = inl is }
+  longer_spent pools some is =
+      record { lists_none = is.lists_none; low = is.low; fits = is.fits; within = inl (some, is) }
 
   pub crowded_spent : (pools : OrderCertificate PoolLine) (gate : NetNo) → EndsPools f → IsCrowded f gate
       → IsPoolSpent Crowded f budget pools proved → IsEitherSpent f budget (Pools pools) proved
@@ -64,6 +65,9 @@ module _ (f : Fingers) (budget proved : ℕ) where
     within = inr (ends, (gate, crowded), is);
   }
 
+abbrev net_of : ℕ → NetNo
+net_of g = record { 0 = g }
+
 module _ {X : Type 0} (p : X → Bool) where
   none_at : (b : Bool) (x : X) (xs : List X) → (b || list_any p xs) ≡ false
       → (list_any p xs ≡ false → filter p xs ≡ []) → cond b (x ∷ filter p xs) (filter p xs) ≡ []
@@ -73,6 +77,25 @@ module _ {X : Type 0} (p : X → Bool) where
   none_filtered : (xs : List X) → list_any p xs ≡ false → filter p xs ≡ []
   none_filtered [] none = refl
   none_filtered (x ∷ xs) none = none_at (p x) x xs none (none_filtered xs)
+
+  some_at : (b : Bool) (x : X) (xs : List X) → (b || list_any p xs) ≡ true
+      → cond b (x ∷ filter p xs) (filter p xs) ≡ [] → (list_any p xs ≡ true → filter p xs ≡ [] → ⊥) → ⊥
+  some_at true x xs some none rest = cc
+  some_at false x xs some none rest = rest some none
+
+  some_filtered : (xs : List X) → list_any p xs ≡ true → filter p xs ≡ [] → ⊥
+  some_filtered [] some none = cc
+  some_filtered (x ∷ xs) some none = some_at (p x) x xs some none (some_filtered xs)
+
+gates_none : (gates : List ℕ) → map (λ (g : ℕ). net_of g) gates ≡ [] → gates ≡ []
+gates_none [] none = refl
+gates_none (g ∷ gates) none = absurd cc
+
+-- some gate has half columns
+pub some_uneven : (f : Fingers) → list_any (is_uneven f) (range_with_len 0 f.nets) ≡ true → HasHalfColumns f
+some_uneven f some none =
+    some_filtered (is_uneven f) (range_with_len 0 f.nets) some
+    (gates_none (filter (is_uneven f) (range_with_len 0 f.nets)) none)
 
 -- no gate has half columns
 pub none_uneven : (f : Fingers) → list_any (is_uneven f) (range_with_len 0 f.nets) ≡ false → uneven_gates f ≡ []

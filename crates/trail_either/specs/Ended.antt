@@ -1,5 +1,5 @@
 -- How a search ended: with the first least row and its certificate, or with what is proved without a row.
-use Rattle.std.specs.Prelude.{ℕ, ◌≡◌, ◌⊎◌, List, [], IsNone}
+use Rattle.std.specs.Prelude.{ℕ, ◌≡◌, ◌≢◌, ◌⊎◌, List, [], IsNone}
 use Rattle.cell_num.specs.declared.finger.Fingers.{Fingers}
 use Rattle.cell_num.specs.declared.net.NetNo.{NetNo}
 use Rattle.row_model.specs.declared.column.Column.{Column}
@@ -28,7 +28,11 @@ pub record IsEitherCertified (k : Kinds) (f : Fingers) (row : List Column) (evid
   pub lists : Lists k (best_in evidence) (λ listed. listed ≡ row)
   pub fits : EitherFits k evidence
 
--- No gate has half columns; or a search that leaves open those of one row ends without a row, and with units left.
+-- some gate has half columns
+abbrev pub HasHalfColumns : Fingers → Type 0
+HasHalfColumns f = uneven_gates f ≢ []
+
+-- No gate has half columns; or a search that leaves open those of one row ends without a row, for a cause of its own.
 abbrev pub EndsPools : Fingers → Type 0
 EndsPools f = (uneven_gates f ≡ []) ⊎ IsPoolCrowded Longer f
 
@@ -41,7 +45,8 @@ EndsAtGate f = (gate : NetNo) × IsCrowded f gate
 abbrev pub IsFoundWithin : Fingers → ℕ → List Column → TrailEvidence → Type 0
 IsFoundWithin f budget row (Filled trails) = EndsPools f × IsTrailFound f budget row trails
 IsFoundWithin f budget row (Pools pools) =
-    IsPoolFound Longer f budget row pools ⊎ (EndsPools f × EndsAtGate f × IsPoolFound Crowded f budget row pools)
+    (HasHalfColumns f × IsPoolFound Longer f budget row pools)
+    ⊎ (EndsPools f × EndsAtGate f × IsPoolFound Crowded f budget row pools)
 
 -- the row is the first least one, and is certified by what a search found
 pub record IsEitherFound (f : Fingers) (budget : ℕ) (row : List Column) (evidence : TrailEvidence) : Type 0 where
@@ -53,7 +58,8 @@ pub record IsEitherFound (f : Fingers) (budget : ℕ) (row : List Column) (evide
 abbrev pub IsSpentWithin : Fingers → ℕ → TrailEvidence → ℕ → Type 0
 IsSpentWithin f budget (Filled trails) proved = EndsPools f × IsTrailSpent f budget trails proved
 IsSpentWithin f budget (Pools pools) proved =
-    IsPoolSpent Longer f budget pools proved ⊎ (EndsPools f × EndsAtGate f × IsPoolSpent Crowded f budget pools proved)
+    (HasHalfColumns f × IsPoolSpent Longer f budget pools proved)
+    ⊎ (EndsPools f × EndsAtGate f × IsPoolSpent Crowded f budget pools proved)
 
 -- The budget is spent. The certificate lists no row, and its lemmas prove that no arrangement has fewer gaps.
 pub record IsEitherSpent (f : Fingers) (budget : ℕ) (evidence : TrailEvidence) (proved : ℕ) : Type 0 where

@@ -24,7 +24,7 @@ returns-clause-more g c =
     (c.saturating_sub-need.ensures ∙ ap (λ n. n - c.in_ok-settled.settled.ends) c.from.ensures)
     c.in_ok-settled.ensures.ends)
     c.args.marks.now.items (slice_set c.args.marks.now.items c.in-Some.at true) c.in-Some.at c.requires.same refl
-    c.in-Some.ensures (length-set c.args.marks.now.items c.in-Some.at true)
+    c.in-Some.ensures c.if-need-eq0.false (length-set c.args.marks.now.items c.in-Some.at true)
 
 pub returns-clause-reached : goal.returns-clause-reached
 returns-clause-reached g c =
