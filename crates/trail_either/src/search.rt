@@ -79,7 +79,6 @@ fn search_filled(alloc: Global, fingers: &Fingers, budget: u64) -> Result<Either
 /// one row first, since far fewer choices are listed so. Where no gate has any, or that ends without a row though
 /// units are left, `search_trails` is next. Where it ends at a gate, `search_pool_row` leaves open the gates alone that
 /// have too many ways to be filled. Where this finds no row either, that gate is told. Each has the whole budget.
-#[tactic(auto, using(crate::proofs::Ended::longer_found, crate::proofs::Ended::longer_spent))]
 pub fn search_either(
     alloc: Global,
     fingers: &Fingers,
