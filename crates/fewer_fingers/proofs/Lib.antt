@@ -1,0 +1,4 @@
+pub mod Counts
+pub mod Decided
+pub mod Law
+pub mod Thinned

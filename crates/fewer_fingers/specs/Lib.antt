@@ -1,0 +1,2 @@
+-- Read this first: what contracts of public calls cite.
+pub mod Fewer

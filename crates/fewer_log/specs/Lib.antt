@@ -1,0 +1,5 @@
+-- What contracts of public calls cite.
+pub mod Fits
+pub mod Line
+pub mod Reading
+pub mod Text
