@@ -1,5 +1,5 @@
 -- What a check of some bytes comes to, from what the reader and the checker of certificates answered.
-use Rattle.std.proofs.Common.{ℕ, ◌≡◌, ◌≢◌, ◌⊎◌, List, [], Result, Ok, Err, IfOk, inl, inr, refl, sym, subst, arith}
+use Rattle.std.proofs.Common.{ℕ, ◌≡◌, ◌≢◌, ◌⊎◌, List, [], Result, Ok, Err, IfOk, inl, inr, refl, sym, ap, subst, arith, ◌∙◌}
 use Rattle.std.specs.Prelude.{MatchOption}
 use Rattle.cell_num.specs.declared.list.NoMemory.{NoMemory}
 use Rattle.row_model.specs.declared.column.Column.{Column}
@@ -22,7 +22,7 @@ use Rattle.trail_either.proofs.Passes.{Passes, passes}
 use Rattle.call_end.specs.declared.end.End.{End}
 use Rattle.call_end.specs.declared.status.Status.TheVariants as status
 use Rattle.cell_inputs.specs.Inputs.{Inputs}
-use Rattle.cell_commands.specs.TrailCheck.{Checks, HoldsAccepted, HoldsCrowded, HoldsRefused, IsListed, TrailChecksTo}
+use Rattle.cell_commands.specs.TrailCheck.{Checks, HoldsAccepted, HoldsCrowded, HoldsRefused, IsListed, TrailChecksTo, check_end}
 use Rattle.cell_commands.specs.Judged.{Judges}
 use Rattle.cell_commands.specs.declared.trail_checking.TrailAnswer.{TrailAnswer}
 use Rattle.cell_commands.specs.declared.trail_checking.TrailAnswer.TheVariants.{Accepted, Misread, Rejected}
@@ -85,10 +85,16 @@ misread_checks inputs bytes k f (Err e) of_k some_k wrong none is = tt
 
 -- ---- the status
 
+not_done : (end other : End) → other.status ≡ status.Rejected → end ≡ other → end.status ≡ status.Done → ⊥
+not_done end other rejected is done =
+    let both : status.Rejected ≡ status.Done = sym rejected ∙ (sym (ap (λ (e : End). e.status) is) ∙ done) in
+    cc
+
 pub done_holds : (inputs : Inputs) (bytes : List ℕ) (end : End) → TrailChecksTo inputs bytes end → end.status ≡ status.Done → HoldsAccepted inputs bytes
 done_holds inputs bytes end (Accepted row gaps lemmas filled, (least, text, lists), is) done = (gaps, lemmas, filled, text)
-done_holds inputs bytes end (Misread f, h, is) done = cc
-done_holds inputs bytes end (Rejected cause, h, is) done = cc
+done_holds inputs bytes end (Misread f, h, is) done = absurd (not_done end (check_end inputs (Misread f)) refl is done)
+done_holds inputs bytes end (Rejected cause, h, is) done =
+    absurd (not_done end (check_end inputs (Rejected cause)) refl is done)
 
 -- an accepted certificate is refused for a gate with too many ways alone
 is_crowded : (inputs : Inputs) (bytes : List ℕ) (cause : TrailRefusal)

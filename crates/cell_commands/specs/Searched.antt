@@ -14,7 +14,7 @@ use Rattle.cell_commands.specs.declared.searched.Searched.TheVariants.{Found, Op
 use Rattle.trail_either.specs.declared.evidence.TrailEvidence.{TrailEvidence}
 use Rattle.trail_either.specs.Ended.{IsEitherCertified, IsEitherCrowded, IsEitherFound, IsEitherSpent}
 
--- the certificate by trails, of either version, is accepted and lists the row, and was found within the budget
+-- the certificate by trails, of any version, is accepted and lists the row, and was found within the budget
 abbrev pub IsFoundByTrails : Inputs → List Column → TrailEvidence → Type 0
 IsFoundByTrails inputs row trails = IsEitherFound inputs.fingers inputs.tech.budget row trails
 
@@ -43,7 +43,7 @@ IsOpenBy Log inputs proved (held.Log spent) = log.IsUnfinished inputs proved spe
 IsOpenBy Trails inputs proved (held.Trails spent) = IsOpenByTrails inputs proved spent
 IsOpenBy _ inputs proved _ = ⊥
 
--- The search ends at this gate, and finds no row with a certificate of either version. A search for a log never ends
+-- The search ends at this gate, and finds no row with a certificate of any version. A search for a log never ends
 -- so.
 abbrev pub Crowds : Evidence → Inputs → NetNo → Type 0
 Crowds Log inputs gate = ⊥

@@ -1,4 +1,4 @@
--- What a check of a certificate by trails, of either version, results in.
+-- What a check of a certificate by trails, of any version, results in.
 use Rattle.std.specs.Prelude.{ℕ, ◌≡◌, ◌≢◌, List, ◌++◌, codes, Ok, Err}
 use Rattle.cell_num.specs.Fingers.{columns_of}
 use Rattle.cell_num.specs.declared.net.NetNo.{NetNo}

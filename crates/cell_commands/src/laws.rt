@@ -37,7 +37,7 @@ pub fn log_of_other_row()
         → WithKinds f (λ k. IsSolved value k f budget other (log_listing log best)) }
 {}
 
-/// The same of a certificate by trails, of either version. It does nothing: its contract is the law.
+/// The same of a certificate by trails, of any version. It does nothing: its contract is the law.
 pub fn trails_of_other_row()
     ensures accepted { (k : Kinds) (f : Fingers) (trails : TrailEvidence) (gaps : ℕ) (other : List Column)
         (best : Best) → AreKinds f k → AreSomeKinds k → IsEitherAccepted f trails gaps

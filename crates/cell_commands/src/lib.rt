@@ -1,4 +1,4 @@
-// What `plan`, `make` and `check` result in, with any evidence: a log, a certificate by trails of either version, or
+// What `plan`, `make` and `check` result in, with any evidence: a log, a certificate by trails of any version, or
 // one of tracks.
 #![tactic(auto)]
 

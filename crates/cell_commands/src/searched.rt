@@ -25,7 +25,7 @@ pub enum Searched {
         proved: u32,
     },
     /// There are too many ways to pair the fingers of the gate: the search for a certificate by trails ends at it, and
-    /// finds a row with neither version.
+    /// finds a row with no version.
     Crowded {
         gate: NetNo,
     },

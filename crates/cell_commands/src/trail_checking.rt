@@ -66,7 +66,7 @@ fn misread(fault: LogFault) -> Result<TrailAnswer, NoMemory>
     }
 }
 
-/// What a check of the bytes results in: whether they are the text of a certificate by trails, of either version, that
+/// What a check of the bytes results in: whether they are the text of a certificate by trails, of any version, that
 /// is accepted for the inputs.
 pub(crate) fn answer_trails(
     alloc: Global,
@@ -119,7 +119,7 @@ pub(crate) fn trails_end(
     }
 }
 
-/// Whether the bytes are the text of a certificate by trails, of either version, that is accepted for the inputs.
+/// Whether the bytes are the text of a certificate by trails, of any version, that is accepted for the inputs.
 pub fn check_by_trails(alloc: Global, inputs: &Inputs, bytes: &[u8]) -> Result<End, NoMemory>
     requires { length bytes.now ≤ MOST_BYTES }
     ensures { IfOk result (TrailChecksTo inputs.now bytes.now) }

@@ -1,4 +1,4 @@
--- The evidence of a row, by its kind: the log of a search, or a certificate by trails, of either version. Its file, and
+-- The evidence of a row, by its kind: the log of a search, or a certificate by trails, of any version. Its file, and
 -- those beside it.
 use Rattle.std.specs.Prelude.{ℕ, ◌≡◌, ◌≢◌, ◌≤◌, List, ◌++◌, codes, length, Some}
 use Rattle.cell_io.specs.Desk.{Files}

@@ -57,7 +57,7 @@ use std::alloc::Global;
 /// `agree TECH GDS LEF CELL` reports whether the macro of a cell in the LEF file LEF agrees with the cell in the GDSII
 /// file GDS, or the first difference.
 /// With `--trails` as the last word `plan` finds the row with a certificate by trails, `make` makes that, `OUT.ctrail`,
-/// in the place of the log, and `check` reads its file as the text of such a certificate, of either version.
+/// in the place of the log, and `check` reads its file as the text of such a certificate, of any version.
 /// With `--from FILE` as the last words `make` draws the row that the file FILE lists, where `check` accepts it: the
 /// text of a log, or after `--trails` of a certificate by trails. It makes `OUT.gds` and `OUT.lef` alone.
 ///

@@ -1,4 +1,4 @@
 pub mod Least
 pub mod Refusals
 pub mod Rules
-pub mod Texts
+pub mod Unproved

@@ -12,9 +12,11 @@ use Rattle.trail_pools.specs.declared.state.PoolState.{PoolState}
 use Rattle.trail_pools.specs.Leveled.{levels_of, pools_of}
 use Rattle.end_lemmas.specs.declared.lemma.EndLemma.{EndLemma}
 use Rattle.order_log.specs.declared.certificate.OrderCertificate.{OrderCertificate}
+use Rattle.fewer_fingers.specs.Fewer.{MayLeave, staying}
+use Rattle.fewer_log.specs.declared.certificate.FewerCertificate.{FewerCertificate}
 use Rattle.pool_log.specs.declared.lemma.PoolLine.{PoolLine}
 use Rattle.pool_lines.specs.Listed.{state_listed}
-use Rattle.pool_check.specs.Accepted.{IsAccepted as AreAccepted}
+use Rattle.pool_check.specs.Accepted.{AreTrueOf, HasFewWays, IsAccepted as AreAccepted}
 
 -- the gates with half columns that are not filled
 abbrev pub open_of : Fingers → OrderCertificate PoolLine → OpenGates
@@ -33,13 +35,27 @@ abbrev pub lemmas_of : Fingers → OrderCertificate PoolLine → List (EndLemma 
 lemmas_of f pools =
     lemmas_along (pools_of f (open_of f pools)) (levels_of f (open_of f pools) pools.order) pools.lemmas
 
--- The lemmas are accepted along the order, where half columns of gates that are not filled stay open. The row has no
--- more gaps than they prove of every row. How many ways a gate has is not asked.
-pub record IsAccepted (f : Fingers) (pools : OrderCertificate PoolLine) (gaps : ℕ) : Type 0 where
+-- the lemmas of a certificate prove so many ends of the fingers that they are about
+abbrev pub AreProved : Fingers → OrderCertificate PoolLine → ℕ → Type 0
+AreProved f pools ends = AreAccepted f (open_of f pools) pools.order (lemmas_of f pools) ends
+
+-- no gate has too many ways for a checker to list
+abbrev pub HasFewWaysOf : Fingers → OrderCertificate PoolLine → Type 0
+HasFewWaysOf f pools = HasFewWays f (open_of f pools) pools.order
+
+-- each of its lemmas is true of these fingers
+abbrev pub AreTrueLemmas : Fingers → OrderCertificate PoolLine → Type 0
+AreTrueLemmas f pools = AreTrueOf f (open_of f pools) pools.order (lemmas_of f pools)
+
+-- Each gate of which fingers are left out has as many in the other row. The lemmas are accepted along the order for the
+-- other fingers, where half columns of gates that are not filled stay open. The row of all fingers has no more gaps
+-- than they prove. How many ways a gate has is not asked.
+pub record IsAccepted (f : Fingers) (c : FewerCertificate) (gaps : ℕ) : Type 0 where
+  pub may : MayLeave c.out f
   pub ends : ℕ
-  pub lemmas : AreAccepted f (open_of f pools) pools.order (lemmas_of f pools) ends
-  pub passes : WithKinds f (λ (k : Kinds). BestPasses k f (gaps_proved ends) pools.best gaps)
+  pub lemmas : AreProved (staying c.out f) c.pools ends
+  pub passes : WithKinds f (λ (k : Kinds). BestPasses k f (gaps_proved ends) c.pools.best gaps)
 
 -- accepted with no number of gaps
-abbrev pub IsNeverAccepted : Fingers → OrderCertificate PoolLine → Type 0
-IsNeverAccepted f pools = (gaps : ℕ) → IsAccepted f pools gaps → ⊥
+abbrev pub IsNeverAccepted : Fingers → FewerCertificate → Type 0
+IsNeverAccepted f c = (gaps : ℕ) → IsAccepted f c gaps → ⊥

@@ -1,4 +1,3 @@
 -- Read these first: what contracts of public calls cite.
 pub mod Accepted
 pub mod Refusal
-pub mod Text

@@ -3,13 +3,13 @@ ghost use Rattle.std.specs.Prelude.{ℕ, ◌≡◌, ◌≢◌, ◌+◌, ◌≤�
 ghost use Rattle.cell_num.specs.Fingers.{AreFingers};
 ghost use Rattle.trail_check.specs.declared.refusal.TrailRefusal.TheVariants as refusal;
 ghost use Rattle.pool_check.specs.declared.refusal.PoolRefusal.TheVariants as cause;
-ghost use Rattle.pool_check.specs.Accepted.{HasFewWays, IsAccepted as AreAccepted};
 ghost use Rattle.pool_check.specs.Along.{IsAlong};
-ghost use Rattle.pool_certificate.specs.Accepted.{lemma_listed, lemmas_along, lemmas_of, open_of};
-ghost use Rattle.pool_certificate.specs.Refusal.{LemmasRefused, refusal_of};
+ghost use Rattle.pool_certificate.specs.Accepted.{AreProved, HasFewWaysOf, lemma_listed, lemmas_along, open_of};
+ghost use Rattle.pool_certificate.specs.Refusal.{AreLemmasRefused, lemma_line, refusal_of};
 
 use cell_num::{Fingers, MOST_BYTES, NoMemory};
 use end_lemmas::EndLemma;
+use fewer_fingers::LeftOut;
 use open_gates::OpenGates;
 use pool_check::{PoolOrder, PoolRefusal};
 use pool_lines::state_listed;
@@ -64,16 +64,28 @@ fn lemmas_along(
     Ok(lemmas)
 }
 
-// The first lemma is at line 5.
-fn refusal_of(why: PoolRefusal) -> TrailRefusal
-    requires { (at : ℕ) → why ≡ cause.Unproved at → at ≤ MOST_BYTES }
-    ensures { result ≡ refusal_of why }
+/// The line of the first lemma: two lines more are before it where fingers are left out.
+pub(crate) fn lemma_line(out: &Option<LeftOut>) -> u32
+    ensures line { result ≡ lemma_line out.now }
+    ensures few { result ≤ 7 }
+{
+    match out {
+        Some(_) => 7,
+        None => 5,
+    }
+}
+
+// The first lemma is at line `first`.
+fn refusal_of(first: u32, why: PoolRefusal) -> TrailRefusal
+    requires first { first ≤ 7 }
+    requires few { (at : ℕ) → why ≡ cause.Unproved at → at ≤ MOST_BYTES }
+    ensures { result ≡ refusal_of first why }
 {
     match why {
         PoolRefusal::Order => TrailRefusal::Gates,
         PoolRefusal::Choices { gate } => TrailRefusal::Choices { gate },
         PoolRefusal::Unproved { at } => TrailRefusal::Unproved {
-            line: at as u32 + 5,
+            line: at as u32 + first,
         },
         PoolRefusal::NoMemory => TrailRefusal::NoMemory,
     }
@@ -85,38 +97,40 @@ fn along(
     fingers: &Fingers,
     opened: &OpenGates,
     pools: &PoolCertificate,
+    first: u32,
 ) -> Result<PoolOrder, TrailRefusal>
     requires fingers { AreFingers fingers.now }
     requires opened { opened.now ≡ open_of fingers.now pools.now }
+    requires first { first ≤ 7 }
     ensures along { IfOk result (IsAlong fingers.now (open_of fingers.now pools.now) pools.now.order) }
-    ensures refused { IfErr result (λ why. why ≢ refusal.NoMemory → LemmasRefused fingers.now pools.now why) }
+    ensures refused { IfErr result (λ why. why ≢ refusal.NoMemory → AreLemmasRefused fingers.now pools.now first why) }
 {
     match PoolOrder::of(alloc, fingers, opened, pools.order.as_slice()) {
         Ok(along) => Ok(along),
-        Err(why) => Err(refusal_of(why)),
+        Err(why) => Err(refusal_of(first, why)),
     }
 }
 
-/// The ends of trails that the lemmas prove of every row, where each is justified by those before it. Else the first
-/// cause to refuse them.
+/// The ends of trails that the lemmas prove of every row of these fingers, where each is justified by those before it.
+/// Else the first cause to refuse them; the first lemma is at line `first`.
 pub(crate) fn ends_of(
     alloc: Global,
     fingers: &Fingers,
     pools: &PoolCertificate,
+    first: u32,
 ) -> Result<u32, TrailRefusal>
     requires fingers { AreFingers fingers.now }
     requires few { length pools.now.lemmas ≤ MOST_BYTES }
-    ensures accepted { IfOk result (AreAccepted fingers.now (open_of fingers.now pools.now) pools.now.order
-        (lemmas_of fingers.now pools.now)) }
-    ensures few_ways { IfOk result (λ _.
-        HasFewWays fingers.now (open_of fingers.now pools.now) pools.now.order) }
-    ensures refused { IfErr result (λ why. why ≢ refusal.NoMemory → LemmasRefused fingers.now pools.now why) }
+    requires first { first ≤ 7 }
+    ensures accepted { IfOk result (AreProved fingers.now pools.now) }
+    ensures few_ways { IfOk result (λ _. HasFewWaysOf fingers.now pools.now) }
+    ensures refused { IfErr result (λ why. why ≢ refusal.NoMemory → AreLemmasRefused fingers.now pools.now first why) }
 {
     let opened = open_of(alloc, fingers, pools)?;
-    let along = along(alloc, fingers, &opened, pools)?;
+    let along = along(alloc, fingers, &opened, pools, first)?;
     let lemmas = lemmas_along(alloc, &along, pools.lemmas.as_slice())?;
     match along.check(alloc, &lemmas) {
         Ok(ends) => Ok(ends),
-        Err(why) => Err(refusal_of(why)),
+        Err(why) => Err(refusal_of(first, why)),
     }
 }

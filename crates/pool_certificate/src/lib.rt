@@ -3,9 +3,5 @@
 
 mod certify;
 mod ends;
-mod rejected;
-mod text;
 
 pub use certify::check_certificate;
-pub use rejected::PoolsRejected;
-pub use text::{PoolsProved, check_text};

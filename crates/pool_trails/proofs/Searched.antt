@@ -6,7 +6,6 @@ use Rattle.cell_num.specs.declared.finger.Fingers.{Fingers}
 use Rattle.cell_num.specs.declared.net.NetNo.{NetNo}
 use Rattle.cell_num.specs.Fingers.{AreFingers}
 use Rattle.row_state.specs.declared.kind.Kinds.{Kinds}
-use Rattle.row_state.specs.Start.{AreKinds, AreSomeKinds}
 use Rattle.trail_state.specs.Levels.{IsOrder}
 use Rattle.open_gates.specs.declared.gates.OpenGates.{OpenGates}
 use Rattle.open_gates.specs.Open.{open_in}
@@ -31,11 +30,11 @@ use Rattle.pool_check.specs.Accepted.{HasFewWays, first_with_many}
 use Rattle.pool_check.specs.Refusal.{Refuses}
 use Rattle.pool_check.specs.Along.{IsAlong}
 use Rattle.pool_check.specs.Stepping.{pool_steps, steps_of}
-use Rattle.pool_certificate.specs.Accepted.{lemmas_along, lemmas_of, open_of}
+use Rattle.pool_certificate.specs.Accepted.{HasFewWaysOf, lemmas_along, lemmas_of, open_of}
 use Rattle.pool_trails.specs.declared.found.PoolStop.{PoolStop}
 use Rattle.pool_trails.specs.declared.gates.PoolGates.{PoolGates}
 use Rattle.pool_trails.specs.Ended.{HasManyOpen, IsSearched, IsUnlisted}
-use Rattle.pool_trails.specs.Found.{AreLeftOut, IsFoundAlong, certificate_of, line_at}
+use Rattle.pool_trails.specs.Found.{IsPrunedProof, IsFoundAlong, certificate_of, line_at}
 use Rattle.pool_trails.specs.Inner.{ArePoolGates, AreUnlistedAlong, IsPoolProof, ListAlong, Stops, lined, stop_of}
 use Rattle.pool_trails.specs.Opening.{fill_by, is_uncrowded, opened_of}
 
@@ -98,16 +97,14 @@ module _ (f : Fingers) (gates : PoolGates) (g : ArePoolGates f gates) where
         found = subst (λ (gs : List NetNo). IsFoundAlong gates.opening f gs budget proof) (sym l.order) found;
       }
 
-      few_ways : HasFewWays f (open_of f pools) pools.order
+      few_ways : HasFewWaysOf f pools
       few_ways =
           subst (λ (o : OpenGates). HasFewWays f o pools.order) open_same
           (subst (λ (gs : List NetNo). HasFewWays f (opened_of gates.opening f gates.order) gs) (sym l.order)
           a.few_ways)
 
-      is_proof : AreKinds f k → AreSomeKinds k → PoolsFit k pools → IsPoolProof f gates k budget proof pools
-      is_proof of_f kinds fits = record {
-        of_fingers = of_f;
-        some_kinds = kinds;
+      is_proof : PoolsFit k pools → IsPoolProof f gates k budget proof pools
+      is_proof fits = record {
         order = subst (IsOrder f) (sym l.order) g.is;
         few_ways = few_ways;
         searched = searched;
@@ -131,38 +128,32 @@ module _ (f : Fingers) (gates : PoolGates) (g : ArePoolGates f gates) where
         (map (line_at ps) proof.lemmas) ≡ proof.lemmas) (sym a.pools) h)
 
     -- no text lists the lemmas
-    unlisted : AreKinds f k → AreSomeKinds k → AreUnlistedAlong k along gates proof.lemmas → IsUnlisted gates.opening f
-    unlisted of_f kinds none = record {
+    unlisted : AreUnlistedAlong k along gates proof.lemmas → IsUnlisted gates.opening f k
+    unlisted none = record {
       order = gates.order;
       is = g.is;
       budget = budget;
       proof = proof;
       found = found;
-      none = (
-        k,
-        of_f,
-        kinds,
-        λ few fits same. none
-            (subst (λ (c : OrderCertificate PoolLine). length (pool_text (codes "cell") c) ≤ 1073741824) lined_same few)
-            (subst (PoolsFit k) lined_same fits)
-            (record { rowless = refl; fill = refl; order = refl; listed = lines_same same }),
-      );
+      none = λ few fits same. none
+          (subst (λ (c : OrderCertificate PoolLine). length (pool_text (codes "cell") c) ≤ 1073741824) lined_same few)
+          (subst (PoolsFit k) lined_same fits)
+          (record { rowless = refl; fill = refl; order = refl; listed = lines_same same });
     }
 
 module _ (f : Fingers) (gates : PoolGates) (g : ArePoolGates f gates) (k : Kinds) (along : PoolOrder) (budget : ℕ)
     (proof : EndProof PoolState) (lemmas : List (EndLemma PoolState)) (listed : lemmas ≡ proof.lemmas)
     (a : IsAlong f (opened_of gates.opening f gates.order) gates.order along)
-    (found : IsFoundAlong gates.opening f gates.order budget proof) (of_f : AreKinds f k) (kinds : AreSomeKinds k) where
-  pub unlisted_by : AreUnlistedAlong k along gates lemmas → IsUnlisted gates.opening f
+    (found : IsFoundAlong gates.opening f gates.order budget proof) where
+  pub unlisted_by : AreUnlistedAlong k along gates lemmas → IsUnlisted gates.opening f k
   unlisted_by none =
-      unlisted f gates g k along budget proof a found of_f kinds
-      (subst (AreUnlistedAlong k along gates) listed none)
+      unlisted f gates g k along budget proof a found (subst (AreUnlistedAlong k along gates) listed none)
 
   pub proof_by : (pools : OrderCertificate PoolLine) → PoolsFit k pools → ListAlong along gates lemmas pools
       → IsPoolProof f gates k budget proof pools
   proof_by pools fits l =
       is_proof f gates g k along budget proof a found pools
-      (subst (λ (ls : List (EndLemma PoolState)). ListAlong along gates ls pools) listed l) of_f kinds fits
+      (subst (λ (ls : List (EndLemma PoolState)). ListAlong along gates ls pools) listed l) fits
 
 -- What a search finds, once pruned along the steps and levels of an order, is found along it.
 module _ (f : Fingers) (gates : PoolGates) (g : ArePoolGates f gates) (along : PoolOrder) (budget : ℕ)
@@ -183,11 +174,11 @@ module _ (f : Fingers) (gates : PoolGates) (g : ArePoolGates f gates) (along : P
       (sym a.levels) (found_whole found).justified)
 
   pub found_pruned : IsEndProof (steps_of f gates.opened) (levels_of f gates.opened gates.order) start 31 budget whole
-      → AreLeftOut (pool_steps along.steps.pools) along.levels whole proof
+      → IsPrunedProof (pool_steps along.steps.pools) along.levels whole proof
       → IsFoundAlong gates.opening f gates.order budget proof
   found_pruned found stays = record {
     whole = whole;
     found = found_whole found;
-    stays = subst (λ (ls : List PoolLevel). AreLeftOut (steps_of f (opened_of gates.opening f gates.order)) ls whole
-        proof) a.levels (subst (λ (ps : Pools). AreLeftOut (pool_steps ps) along.levels whole proof) a.pools stays);
+    stays = subst (λ (ls : List PoolLevel). IsPrunedProof (steps_of f (opened_of gates.opening f gates.order)) ls whole
+        proof) a.levels (subst (λ (ps : Pools). IsPrunedProof (pool_steps ps) along.levels whole proof) a.pools stays);
   }

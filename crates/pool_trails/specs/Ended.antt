@@ -1,5 +1,5 @@
 -- How a search ended: with the first least row and its certificate, or with what is proved without a row.
-use Rattle.std.specs.Prelude.{ℕ, ◌≡◌, ◌+◌, ◌-◌, ◌/◌, ◌⊎◌, Bool, IsTrue, if◌then◌else◌, List, Some, IsNone}
+use Rattle.std.specs.Prelude.{ℕ, ◌≡◌, ◌+◌, ◌-◌, ◌/◌, ◌⊎◌, Bool, true, false, IsTrue, if◌then◌else◌, List, Some, IsNone}
 use Rattle.cell_num.specs.declared.finger.Fingers.{Fingers}
 use Rattle.cell_num.specs.declared.net.NetNo.{NetNo}
 use Rattle.cell_num.specs.Fingers.{columns_of}
@@ -20,24 +20,25 @@ use Rattle.end_search.specs.Proof.{next_need}
 use Rattle.end_search.specs.Reached.{HasFewer}
 use Rattle.order_log.specs.declared.certificate.OrderCertificate.{OrderCertificate}
 use Rattle.pool_log.specs.declared.lemma.PoolLine.{PoolLine}
-use Rattle.pool_log.specs.Fits.{PoolsFit}
-use Rattle.pool_check.specs.Accepted.{HasFewWays, IsAccepted as AreAccepted, first_with_many}
+use Rattle.fewer_fingers.specs.Fewer.{staying}
+use Rattle.fewer_log.specs.declared.certificate.FewerCertificate.{FewerCertificate}
+use Rattle.fewer_log.specs.Fits.{FewerFits}
+use Rattle.pool_check.specs.Accepted.{first_with_many}
 use Rattle.pool_check.specs.Stepping.{steps_of}
-use Rattle.pool_certificate.specs.Accepted.{IsAccepted, lemmas_of, open_of}
+use Rattle.pool_certificate.specs.Accepted.{AreProved, HasFewWaysOf, IsAccepted, lemmas_of}
 use Rattle.pool_trails.specs.declared.found.PoolStop.{PoolStop}
 use Rattle.pool_trails.specs.declared.found.PoolStop.TheVariants as stopped
 use Rattle.pool_trails.specs.declared.opening.Opening.{Opening}
 use Rattle.pool_trails.specs.Found.{AreUnlisted, IsFoundAlong}
-use Rattle.pool_trails.specs.Opening.{fill_by, is_uncrowded, opened_of}
+use Rattle.pool_trails.specs.Opening.{staying_by, fill_by, is_uncrowded, opened_of, out_of}
 
 -- The certificate is accepted with the gaps of the row, and lists it. A checker can list the ways of its gates, and a
 -- text can hold it.
-pub record IsPoolCertified (k : Kinds) (f : Fingers) (row : List Column) (pools : OrderCertificate PoolLine) : Type 0
-  where
-    pub accepted : IsAccepted f pools (gaps_of row)
-    pub few_ways : HasFewWays f (open_of f pools) pools.order
-    pub lists : Lists k pools.best (λ listed. listed ≡ row)
-    pub fits : PoolsFit k pools
+pub record IsPoolCertified (k : Kinds) (f : Fingers) (row : List Column) (c : FewerCertificate) : Type 0 where
+  pub accepted : IsAccepted f c (gaps_of row)
+  pub few_ways : HasFewWaysOf (staying c.out f) c.pools
+  pub lists : Lists k c.pools.best (λ listed. listed ≡ row)
+  pub fits : FewerFits k c
 
 -- A search within the budget found the lemmas of the certificate, with these gates left open.
 pub record IsSearched (opening : Opening) (f : Fingers) (budget : ℕ) (pools : OrderCertificate PoolLine)
@@ -47,12 +48,13 @@ pub record IsSearched (opening : Opening) (f : Fingers) (budget : ℕ) (pools : 
   pub found : IsFoundAlong opening f pools.order budget proof
 
 -- The row is the first least one, and is certified. It has as many gaps as the lemmas prove that were found.
-pub record IsPoolFound (opening : Opening) (f : Fingers) (budget : ℕ) (row : List Column)
-    (pools : OrderCertificate PoolLine) : Type 0 where
+pub record IsPoolFound (opening : Opening) (f : Fingers) (budget : ℕ) (row : List Column) (c : FewerCertificate)
+    : Type 0 where
   pub first : IsFirstLeast f row
-  pub certified : WithKinds f (λ k. IsPoolCertified k f row pools)
+  pub certified : WithKinds f (λ k. IsPoolCertified k f row c)
+  pub out : c.out ≡ out_of opening f
   pub proof : EndProof PoolState
-  pub searched : IsSearched opening f budget pools proof
+  pub searched : IsSearched opening (staying_by opening f) budget c.pools proof
   pub gaps : gaps_of row ≡ gaps_proved proof.ends
 
 -- the units of the first search for a row: half of them, where there is a second one
@@ -60,26 +62,27 @@ abbrev pub first_units : Bool → ℕ → ℕ
 first_units twice units = if twice then units / 2 else units
 
 -- The units went for a row, in one search or in two. Those of each search, except one of each column, went for bounds
--- of states, and for attempts to refute states by trails.
+-- of states, and in the second one for attempts to refute states by trails.
 pub record WentForRow (k : Kinds) (most : ℕ) (twice : Bool) (units others : ℕ) : Type 0 where
-  pub first : AreSearched k most (first_units twice units) others
-  pub second : IsTrue twice → AreSearched k most (units - first_units twice units) others
+  pub first : AreSearched k false most (first_units twice units) others
+  pub second : IsTrue twice → AreSearched k true most (units - first_units twice units) others
 
 -- The budget is spent. The certificate lists no row. Its lemmas are accepted, and prove that no arrangement has fewer
 -- gaps. A search within the budget found them. It left no units. Or those that it left went for a row with so many
 -- gaps. Where no gate is crowded, it was looked for twice.
-pub record IsPoolSpent (opening : Opening) (f : Fingers) (budget : ℕ) (pools : OrderCertificate PoolLine) (proved : ℕ)
+pub record IsPoolSpent (opening : Opening) (f : Fingers) (budget : ℕ) (c : FewerCertificate) (proved : ℕ)
     : Type 0 where
+  pub out : c.out ≡ out_of opening f
   pub proof : EndProof PoolState
-  pub lists_none : IsNone pools.best
-  pub accepted : AreAccepted f (open_of f pools) pools.order (lemmas_of f pools) proof.ends
-  pub few_ways : HasFewWays f (open_of f pools) pools.order
+  pub lists_none : IsNone c.pools.best
+  pub accepted : AreProved (staying_by opening f) c.pools proof.ends
+  pub few_ways : HasFewWaysOf (staying_by opening f) c.pools
   pub best : proved ≡ gaps_proved proof.ends
   pub low : IsLow f proved
-  pub fits : WithKinds f (λ k. PoolsFit k pools)
-  pub searched : IsSearched opening f budget pools proof
+  pub fits : WithKinds f (λ k. FewerFits k c)
+  pub searched : IsSearched opening (staying_by opening f) budget c.pools proof
   pub work : (proof.left ≡ 0) ⊎ WithKinds f (λ k.
-      WentForRow k (proved + 1) (is_uncrowded f pools.order) proof.left (columns_of f))
+      WentForRow k (proved + 1) (is_uncrowded (staying_by opening f) c.pools.order) proof.left (columns_of f))
 
 -- for an order of the gates one of them has too many ways, though half columns stay open
 pub record HasManyOpen (opening : Opening) (f : Fingers) : Type 0 where
@@ -88,28 +91,35 @@ pub record HasManyOpen (opening : Opening) (f : Fingers) : Type 0 where
   pub gate : NetNo
   pub first : first_with_many f (opened_of opening f order) order ≡ Some gate
 
--- For an order of the gates no lemmas prove more gaps than so many ends do, and every arrangement has more.
-pub record IsPooledInVain (opening : Opening) (f : Fingers) : Type 0 where
+-- For an order of the gates no lemmas on some fingers prove more gaps than so many ends do.
+pub record HasMostEnds (opening : Opening) (f : Fingers) (ends : ℕ) : Type 0 where
   pub order : List NetNo
   pub is : IsOrder f order
-  pub ends : ℕ
   pub most : HasFewer (steps_of f (opened_of opening f order)) (levels_of f (opened_of opening f order) order) start
       (next_need ends)
+
+-- no lemmas prove more gaps than so many ends do, and every arrangement has more
+pub record IsPooledInVain (opening : Opening) (f : Fingers) : Type 0 where
+  pub ends : ℕ
+  pub most : HasMostEnds opening (staying_by opening f) ends
   pub more : IsLow f (gaps_proved ends + 1)
 
 -- for an order of the gates lemmas were found that no text lists
-pub record IsUnlisted (opening : Opening) (f : Fingers) : Type 0 where
+pub record IsUnlisted (opening : Opening) (f : Fingers) (k : Kinds) : Type 0 where
   pub order : List NetNo
   pub is : IsOrder f order
   pub budget : ℕ
   pub proof : EndProof PoolState
   pub found : IsFoundAlong opening f order budget proof
-  pub none : WithKinds f (λ k. AreUnlisted opening f k order proof.lemmas)
+  pub none : AreUnlisted opening f k order proof.lemmas
 
 abbrev pub IsPoolCrowded : Opening → Fingers → Type 0
-IsPoolCrowded opening f = HasManyOpen opening f ⊎ (IsPooledInVain opening f ⊎ IsUnlisted opening f)
+IsPoolCrowded opening f =
+    HasManyOpen opening (staying_by opening f)
+    ⊎ (IsPooledInVain opening f ⊎ WithKinds f (IsUnlisted opening (staying_by opening f)))
 
 abbrev pub IsPoolStopped : Opening → Fingers → ℕ → PoolStop → Type 0
-IsPoolStopped opening f budget (stopped.Unfinished pools proved) = IsPoolSpent opening f budget pools proved
+IsPoolStopped opening f budget (stopped.Unfinished certificate proved) =
+    IsPoolSpent opening f budget certificate proved
 IsPoolStopped opening f budget stopped.Crowded = IsPoolCrowded opening f
 IsPoolStopped opening f budget stopped.NoMemory = Unit {0}

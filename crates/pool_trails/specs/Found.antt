@@ -24,8 +24,8 @@ use Rattle.pool_certificate.specs.Accepted.{lemmas_of}
 use Rattle.pool_trails.specs.declared.opening.Opening.{Opening}
 use Rattle.pool_trails.specs.Opening.{fill_by, opened_of}
 
--- The same lemmas, ends and units, but for lemmas that are left out: what stays is pruned.
-pub record AreLeftOut (steps : Steps PoolLevel OpenChoice PoolState) (levels : List PoolLevel)
+-- The same ends and units; of the lemmas those that a pruned list has.
+pub record IsPrunedProof (steps : Steps PoolLevel OpenChoice PoolState) (levels : List PoolLevel)
     (whole proof : EndProof PoolState) : Type 0 where
   pub pruned : IsPruned steps levels start whole.lemmas proof.lemmas
   pub ends : proof.ends ≡ whole.ends
@@ -39,8 +39,8 @@ pub record IsFoundAlong (opening : Opening) (f : Fingers) (order : List NetNo) (
   pub whole : EndProof PoolState
   pub found : IsEndProof (steps_of f (opened_of opening f order)) (levels_of f (opened_of opening f order) order) start
       31 budget whole
-  pub stays : AreLeftOut (steps_of f (opened_of opening f order)) (levels_of f (opened_of opening f order) order) whole
-      proof
+  pub stays : IsPrunedProof (steps_of f (opened_of opening f order)) (levels_of f (opened_of opening f order) order)
+      whole proof
 
 abbrev pub line_at : Pools → EndLemma PoolState → PoolLine
 line_at pools lemma = line_of pools lemma.bound lemma.done lemma.state

@@ -1,9 +1,8 @@
 -- What inner contracts cite.
-use Rattle.std.specs.Prelude.{ℕ, ◌≡◌, ◌≤◌, ◌==◌, Bool, List, Some, None, codes, length, map}
+use Rattle.std.specs.Prelude.{ℕ, ◌≡◌, ◌≤◌, ◌==◌, ◌⊎◌, Bool, List, Some, None, codes, length, map}
 use Rattle.cell_num.specs.declared.finger.Fingers.{Fingers}
 use Rattle.cell_num.specs.declared.net.NetNo.{NetNo}
 use Rattle.row_state.specs.declared.kind.Kinds.{Kinds}
-use Rattle.row_state.specs.Start.{AreKinds, AreSomeKinds}
 use Rattle.bound_log.specs.declared.log.Best.{Best}
 use Rattle.trail_state.specs.Levels.{IsOrder}
 use Rattle.trail_pools.specs.declared.state.PoolState.{PoolState}
@@ -16,12 +15,13 @@ use Rattle.pool_log.specs.Text.{pool_text}
 use Rattle.pool_check.specs.declared.along.PoolOrder.{PoolOrder}
 use Rattle.pool_check.specs.declared.refusal.PoolRefusal.{PoolRefusal}
 use Rattle.pool_check.specs.declared.refusal.PoolRefusal.TheVariants as cause
-use Rattle.pool_check.specs.Accepted.{HasFewWays}
-use Rattle.pool_certificate.specs.Accepted.{lemmas_along, open_of}
+use Rattle.fewer_log.specs.declared.certificate.FewerCertificate.{FewerCertificate}
+use Rattle.pool_certificate.specs.Accepted.{HasFewWaysOf, lemmas_along}
 use Rattle.pool_trails.specs.declared.found.PoolStop.{PoolStop}
 use Rattle.pool_trails.specs.declared.found.PoolStop.TheVariants as stopped
 use Rattle.pool_trails.specs.declared.gates.PoolGates.{PoolGates}
-use Rattle.pool_trails.specs.Ended.{IsSearched}
+use Rattle.pool_trails.specs.declared.opening.Opening.{Opening}
+use Rattle.pool_trails.specs.Ended.{HasManyOpen, IsSearched, IsUnlisted}
 use Rattle.pool_trails.specs.Found.{line_at}
 use Rattle.pool_trails.specs.Opening.{fill_by, is_uncrowded, opened_of}
 
@@ -34,7 +34,7 @@ pub record ArePoolGates (f : Fingers) (gates : PoolGates) : Type 0 where
 
 -- so it is of a stop that is no lack of memory
 abbrev pub Stops : Type 0 → PoolStop → Type 0
-Stops Says (stopped.Unfinished pools proved) = ⊥
+Stops Says (stopped.Unfinished certificate proved) = ⊥
 Stops Says stopped.Crowded = Says
 Stops Says stopped.NoMemory = Unit {0}
 
@@ -68,23 +68,23 @@ AreUnlistedAlong k along gates lemmas =
     length (pool_text (codes "cell") (lined along gates lemmas)) ≤ 1073741824
     → PoolsFit k (lined along gates lemmas) → ListAlong along gates lemmas (lined along gates lemmas) → ⊥
 
--- the certificate of what a search found: it lists no row
+-- The certificate of what a search found: it lists no row. The kinds may be those of more fingers.
 pub record IsPoolProof (f : Fingers) (gates : PoolGates) (k : Kinds) (budget : ℕ) (proof : EndProof PoolState)
     (pools : OrderCertificate PoolLine) : Type 0 where
-  pub of_fingers : AreKinds f k
-  pub some_kinds : AreSomeKinds k
   pub order : IsOrder f pools.order
-  pub few_ways : HasFewWays f (open_of f pools) pools.order
+  pub few_ways : HasFewWaysOf f pools
   pub searched : IsSearched gates.opening f budget pools proof
   pub none_crowded : gates.uncrowded ≡ is_uncrowded f pools.order
   pub rowless : pools.best ≡ None
   pub fits : PoolsFit k pools
 
+-- a gate has too many ways, or no text lists the lemmas
+abbrev pub CannotProve : Opening → Fingers → Kinds → Type 0
+CannotProve opening f k = HasManyOpen opening f ⊎ IsUnlisted opening f k
+
 -- the certificate with this row
-abbrev pub with_best : OrderCertificate PoolLine → Best → OrderCertificate PoolLine
-with_best pools best = record {
-  fill = pools.fill;
-  order = pools.order;
-  lemmas = pools.lemmas;
-  best = Some best;
+abbrev pub with_best : FewerCertificate → Best → FewerCertificate
+with_best c best = record {
+  out = c.out;
+  pools = record { fill = c.pools.fill; order = c.pools.order; lemmas = c.pools.lemmas; best = Some best };
 }

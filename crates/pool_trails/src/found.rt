@@ -1,5 +1,5 @@
 use cell_num::NoMemory;
-use pool_log::PoolCertificate;
+use fewer_log::FewerCertificate;
 use row_model::Arrangement;
 
 /// The first least arrangement.
@@ -7,7 +7,7 @@ use row_model::Arrangement;
 pub struct PoolFound {
     pub row: Arrangement,
     /// The certificate that lists the row, and proves that no arrangement has fewer gaps.
-    pub pools: PoolCertificate,
+    pub certificate: FewerCertificate,
 }
 
 /// Why a search ended without a row.
@@ -15,9 +15,12 @@ pub struct PoolFound {
 pub enum PoolStop {
     /// The budget is spent. The lemmas of the certificate, which lists no row, prove that each arrangement has at least
     /// `proved` gaps.
-    Unfinished { pools: PoolCertificate, proved: u32 },
-    /// A gate has too many ways even where half columns stay open. Or each arrangement has more gaps than lemmas prove
-    /// then. Or no text lists the lemmas.
+    Unfinished {
+        certificate: FewerCertificate,
+        proved: u32,
+    },
+    /// A gate of the fingers that stay has too many ways, though half columns stay open. Or each arrangement has more
+    /// gaps than lemmas on these fingers prove. Or no text lists the lemmas.
     Crowded,
     NoMemory,
 }

@@ -4,7 +4,7 @@ ghost use Rattle.cell_num.specs.Fingers.{AreFingers};
 ghost use Rattle.end_lemmas.specs.Justified.{AreJustified};
 ghost use Rattle.pool_check.specs.Along.{IsAlong};
 ghost use Rattle.pool_check.specs.Stepping.{AreFew, pool_steps};
-ghost use Rattle.pool_trails.specs.Found.{AreLeftOut, IsFoundAlong};
+ghost use Rattle.pool_trails.specs.Found.{IsPrunedProof, IsFoundAlong};
 ghost use Rattle.pool_trails.specs.Inner.{ArePoolGates};
 ghost use Rattle.pool_trails.specs.Opening.{opened_of};
 
@@ -28,7 +28,7 @@ fn without_unused(
 ) -> Result<EndProof<PoolState>, NoMemory>
     requires few { All (AreFew along.now.steps.pools) along.now.levels }
     requires justified { AreJustified (pool_steps along.now.steps.pools) along.now.levels whole.lemmas }
-    ensures { IfOk result (AreLeftOut (pool_steps along.now.steps.pools) along.now.levels whole) }
+    ensures { IfOk result (IsPrunedProof (pool_steps along.now.steps.pools) along.now.levels whole) }
 {
     let EndProof {
         lemmas,

@@ -3,6 +3,7 @@
 
 mod found;
 mod gates;
+mod left_out;
 mod lemmas;
 mod listed;
 mod opening;

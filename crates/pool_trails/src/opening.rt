@@ -5,6 +5,7 @@ ghost use Rattle.open_gates.specs.Open.{has_more};
 ghost use Rattle.trail_search.specs.Filling.{opened_gates};
 ghost use Rattle.pool_trails.specs.Opening.{fuller_row, opened_by, row_among};
 
+use crate::left_out::other_row;
 use cell_num::{Fingers, List, NetNo, NoMemory, Row};
 use open_gates::{has_more, row_of};
 use std::alloc::{AllocError, Global};
@@ -18,6 +19,9 @@ pub enum Opening {
     Longer,
     /// Only those with too many ways to be filled: those that `search_trails` leaves open.
     Crowded,
+    /// Each with fewer fingers in this row. A gate that has no more in it than in the other one, and too many ways even
+    /// so, has its fingers of this row left out.
+    Without(Row),
 }
 
 fn fuller_row(fingers: &Fingers) -> Row
@@ -40,7 +44,7 @@ fn row_among(fingers: &Fingers, gates: &[NetNo]) -> Row
     }
 }
 
-fn having_more(
+pub(crate) fn having_more(
     alloc: Global,
     row: Row,
     fingers: &Fingers,
@@ -73,5 +77,9 @@ pub(crate) fn opened_by(
             Ok(List::from_vec(longer))
         }
         Opening::Crowded => Ok(crowded),
+        Opening::Without(row) => {
+            let more = having_more(alloc, other_row(row), fingers, order)?;
+            Ok(List::from_vec(more))
+        }
     }
 }

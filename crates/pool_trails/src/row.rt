@@ -25,14 +25,14 @@ fn row_once(
     ensures found { IfOk result (λ r. IfSome r (IsFirstRow kinds.now gaps)) }
     ensures none { IfOk result (λ r. IfNone r (Need kinds.now (start_of kinds.now) (gaps + 1))) }
     ensures spent { IfErr result (λ why. IfSpent why
-        (AreSearched kinds.now (gaps + 1) units (columns_left kinds.now (start_of kinds.now)))) }
+        (AreSearched kinds.now tries (gaps + 1) units (columns_left kinds.now (start_of kinds.now)))) }
 {
     let mut left = units;
     first_row(alloc, kinds, gaps, tries, &mut left)
 }
 
-/// The first row that has at most this number of gaps, or none. No trails are tried at its states. Where it is looked
-/// for `twice`, that takes half of the units, and where they are spent, the others go for a search that tries trails.
+/// The first row that has at most this number of gaps, or none. All units go for one search without attempts by trails.
+/// With `twice` half of them do, and where these are spent, the others go for a search with attempts.
 #[tactic(auto, using(crate::proofs::Rows::went_once, crate::proofs::Rows::went_twice))]
 pub(crate) fn row_within(
     alloc: Global,

@@ -1,12 +1,14 @@
 ghost use Rattle.std.specs.Prelude.{◌≡◌, ◌↔◌, IfErr, IfOk, IsTrue};
 ghost use Rattle.cell_num.specs.Fingers.{AreFingers};
+ghost use Rattle.row_state.specs.Start.{AreKinds, AreSomeKinds};
 ghost use Rattle.trail_check.specs.Justified.{gaps_proved};
 ghost use Rattle.end_search.specs.declared.proof.SearchEnd.TheVariants as ended;
-ghost use Rattle.pool_trails.specs.declared.found.PoolStop.TheVariants as stopped;
 ghost use Rattle.pool_trails.specs.Ended.{IsPoolFound, IsPoolStopped};
-ghost use Rattle.pool_trails.specs.Inner.{ArePoolGates, IsPoolProof, with_best};
+ghost use Rattle.pool_trails.specs.Inner.{ArePoolGates, CannotProve, IsPoolProof, Stops, with_best};
+ghost use Rattle.pool_trails.specs.Opening.{staying_by, out_of};
 
 use crate::gates::{PoolGates, along, pool_gates};
+use crate::left_out::out_of;
 use crate::lemmas::lemmas_along;
 use crate::listed::listed;
 use crate::row::row_within;
@@ -14,19 +16,32 @@ use crate::{Opening, PoolFound, PoolStop};
 use bound_log::Best;
 use cell_num::{Fingers, Halt};
 use end_search::{EndProof, SearchEnd};
+use fewer_fingers::staying;
+use fewer_log::FewerCertificate;
 use pool_log::PoolCertificate;
 use row_state::{Kinds, kinds};
 use std::alloc::Global;
 use trail_pools::PoolState;
 
-fn with_row(pools: PoolCertificate, best: Best) -> PoolCertificate
-    ensures { result ≡ with_best pools best }
+/// Lemmas on some fingers, and the certificate that lists them.
+#[derive(Debug, Drop)]
+struct PoolProof {
+    proof: EndProof<PoolState>,
+    pools: PoolCertificate,
+}
+
+fn with_row(certificate: FewerCertificate, best: Best) -> FewerCertificate
+    ensures { result ≡ with_best certificate best }
 {
-    PoolCertificate {
-        fill: pools.fill,
-        order: pools.order,
-        lemmas: pools.lemmas,
-        best: Some(best),
+    let pools = certificate.pools;
+    FewerCertificate {
+        out: certificate.out,
+        pools: PoolCertificate {
+            fill: pools.fill,
+            order: pools.order,
+            lemmas: pools.lemmas,
+            best: Some(best),
+        },
     }
 }
 
@@ -52,58 +67,69 @@ fn row_of(
     gates: &PoolGates,
     kinds: &Kinds,
     proof: &EndProof<PoolState>,
-    pools: PoolCertificate,
+    certificate: FewerCertificate,
     budget: u64,
 ) -> Result<PoolFound, PoolStop>
     requires fingers { AreFingers fingers.now }
-    requires proof { IsPoolProof fingers.now gates.now kinds.now budget proof.now pools }
-    ensures found { IfOk result (λ r. IsPoolFound gates.now.opening fingers.now budget r.row r.pools) }
+    requires kinds { AreKinds fingers.now kinds.now }
+    requires sound { AreSomeKinds kinds.now }
+    requires out { certificate.out ≡ out_of gates.now.opening fingers.now }
+    requires proof { IsPoolProof (staying_by gates.now.opening fingers.now) gates.now kinds.now budget proof.now
+        certificate.pools }
+    ensures found { IfOk result (λ r. IsPoolFound gates.now.opening fingers.now budget r.row r.certificate) }
     ensures stopped { IfErr result (IsPoolStopped gates.now.opening fingers.now budget) }
 {
     let proved = gaps_proved(proof.ends);
     if is_spent(proof.end) {
-        return Err(PoolStop::Unfinished { pools, proved });
+        return Err(PoolStop::Unfinished {
+            certificate,
+            proved,
+        });
     }
     match row_within(alloc, kinds, proved, gates.uncrowded, proof.left) {
         Ok(Some(first)) => Ok(PoolFound {
             row: first.row,
-            pools: with_row(pools, first.best),
+            certificate: with_row(certificate, first.best),
         }),
         Ok(None) => Err(PoolStop::Crowded),
-        Err(Halt::Spent) => Err(PoolStop::Unfinished { pools, proved }),
+        Err(Halt::Spent) => Err(PoolStop::Unfinished {
+            certificate,
+            proved,
+        }),
         Err(Halt::NoMemory) => Err(PoolStop::NoMemory),
     }
 }
 
+// Lemmas on the fingers, as they are listed. The kinds may be those of more fingers.
 #[tactic(auto, using(crate::proofs::Rules::search_rules))]
-fn search_along(
+fn proof_along(
     alloc: Global,
     fingers: &Fingers,
     gates: &PoolGates,
+    kinds: &Kinds,
     budget: u64,
-) -> Result<PoolFound, PoolStop>
+) -> Result<PoolProof, PoolStop>
     requires fingers { AreFingers fingers.now }
     requires gates { ArePoolGates fingers.now gates.now }
-    ensures found { IfOk result (λ r. IsPoolFound gates.now.opening fingers.now budget r.row r.pools) }
-    ensures stopped { IfErr result (IsPoolStopped gates.now.opening fingers.now budget) }
+    ensures proof { IfOk result (λ r. IsPoolProof fingers.now gates.now kinds.now budget r.proof r.pools) }
+    ensures stopped { IfErr result (Stops (CannotProve gates.now.opening fingers.now kinds.now)) }
 {
-    let kinds = kinds(alloc, fingers)?;
     let along = along(alloc, fingers, gates)?;
     let proof = lemmas_along(alloc, fingers, gates, &along, budget)?;
-    let listed = listed(alloc, &kinds, &along, gates, proof.lemmas.as_slice())?;
+    let listed = listed(alloc, kinds, &along, gates, proof.lemmas.as_slice())?;
     let Some(pools) = listed else {
         return Err(PoolStop::Crowded);
     };
-    row_of(alloc, fingers, gates, &kinds, &proof, pools, budget)
+    Ok(PoolProof { proof, pools })
 }
 
 /// The first least arrangement of the fingers, and a certificate with the balances of pools that proves that none has
-/// fewer gaps; or what is proved when the budget is spent. Half columns stay open as `opening` says. Lemmas are looked
-/// for first, by `search_pools`; those that nothing rests on are left out. Then a row of as many gaps as they prove is
-/// looked for, with the units that are left. Where no gate
-/// has too many ways to be filled, half of these go for a search that tries no trails at the states of a row; where it
-/// spends them, the others go for a search that does. Else all go for the first. It ends without a row where a gate has
-/// too many ways even so, or where each arrangement has more gaps.
+/// fewer gaps; or what is proved when the budget is spent. Half columns stay open, and fingers are left out, as
+/// `opening` says. Lemmas on the fingers that stay are looked for first, by `search_pools`. Those that nothing rests on
+/// are not listed. Then a row of all fingers with as many gaps as they prove is looked for, with the units that are
+/// left. Where no gate of the fingers that stay has too many ways to be filled, half of these go for a search that
+/// tries no trails at the states of a row; where it spends them, the others go for a search that does. Else all go for
+/// the first. It ends without a row where a gate has too many ways even so, or where each arrangement has more gaps.
 pub fn search_pool_row(
     alloc: Global,
     fingers: &Fingers,
@@ -111,9 +137,14 @@ pub fn search_pool_row(
     budget: u64,
 ) -> Result<PoolFound, PoolStop>
     requires { AreFingers fingers.now }
-    ensures found { IfOk result (λ r. IsPoolFound opening fingers.now budget r.row r.pools) }
+    ensures found { IfOk result (λ r. IsPoolFound opening fingers.now budget r.row r.certificate) }
     ensures stopped { IfErr result (IsPoolStopped opening fingers.now budget) }
 {
-    let gates = pool_gates(alloc, fingers, opening)?;
-    search_along(alloc, fingers, &gates, budget)
+    let out = out_of(alloc, opening, fingers)?;
+    let others = staying(alloc, &out, fingers)?;
+    let kinds = kinds(alloc, fingers)?;
+    let gates = pool_gates(alloc, &others, opening)?;
+    let PoolProof { proof, pools } = proof_along(alloc, &others, &gates, &kinds, budget)?;
+    let certificate = FewerCertificate { out, pools };
+    row_of(alloc, fingers, &gates, &kinds, &proof, certificate, budget)
 }

@@ -1,5 +1,5 @@
-// Certificates by trails of version 2, where half columns stay open. Another program, written after the description of
-// the text, accepts this one.
+// Certificates by trails of version 2, where half columns stay open, and of version 3, where fingers are left out.
+// Another program, written after the description of the text, accepts these.
 use crate::setup::{joined, tells};
 use cell_run::Status;
 use std::alloc::Global;
@@ -27,24 +27,30 @@ const ROW: &str =
 
 const ACCEPTED: &str = "status 0 ok\ncell half\ncolumns 4\ngaps 1\nwidth 5\nlemmas 3\nfilled 0\n";
 
-// Whether a certificate of these parts is judged so.
-fn is_judged(alloc: Global, parts: &[&str], status: Status, said: &[&str]) -> Result<bool, Fail> {
+// Whether a certificate of these parts is judged so, for this cell.
+fn is_judged_of(
+    alloc: Global,
+    words: &str,
+    cell: &str,
+    parts: &[&str],
+    status: Status,
+    said: &[&str],
+) -> Result<bool, Fail> {
     let text = joined(alloc, parts)?;
-    let files = ["", UNEVEN, text.as_str()];
-    let is = tells(
-        alloc,
-        "check - c.sp half l.clog --trails",
-        files,
-        status,
-        said,
-    );
+    let files = ["", cell, text.as_str()];
+    let is = tells(alloc, words, files, status, said);
     drop(text);
     is
 }
 
+fn is_judged(alloc: Global, parts: &[&str], status: Status, said: &[&str]) -> Result<bool, Fail> {
+    let words = "check - c.sp half l.clog --trails";
+    is_judged_of(alloc, words, UNEVEN, parts, status, said)
+}
+
 // The parts of a damaged certificate, and why it is refused. The text of version 1 has no balances.
 const REFUSED: [([&str; 4], &str); 7] = [
-    (["cellgen-trails 3\n", FIRST, OTHERS, ROW], "Version"),
+    (["cellgen-trails 4\n", FIRST, OTHERS, ROW], "Version"),
     (
         [
             "cellgen-trails 1\ncell half\nfill -\norder 0,1\n",
@@ -85,5 +91,91 @@ fn checks_certificates_with_open_columns(rt: HostRuntime) -> Result<(), Fail> {
         let said = ["status 7 rejected\ntrails ", *why, "\n"];
         assert!(rt; is_judged(alloc, parts, Status::Rejected, &said)?, "{why}");
     }
+    Ok(())
+}
+
+// Four inverters of three fingers each on net b, and the inverter before them. Gate b has too many ways to pair.
+const MANY: &str = ".SUBCKT many a y0 y1 y2 y3 vdd gnd
+MPA b a vdd vdd p W=3u L=0.6u
+MNA b a gnd gnd n W=1.5u L=0.6u
+MP0 y0 b vdd vdd p W=3u L=0.6u M=3
+MN0 y0 b gnd gnd n W=1.5u L=0.6u M=3
+MP1 y1 b vdd vdd p W=3u L=0.6u M=3
+MN1 y1 b gnd gnd n W=1.5u L=0.6u M=3
+MP2 y2 b vdd vdd p W=3u L=0.6u M=3
+MN2 y2 b gnd gnd n W=1.5u L=0.6u M=3
+MP3 y3 b vdd vdd p W=3u L=0.6u M=3
+MN3 y3 b gnd gnd n W=1.5u L=0.6u M=3
+.ENDS
+";
+
+const WITHOUT: &str = "cellgen-trails 3\nwithout N 7\n";
+
+const OTHER_FINGERS: &str =
+    "cellgen-trails 2\ncell many\nfill -\norder 0,7\nlemma 4 1 - 5+1 5.*!\nlemma 5 0 - - -\n";
+
+const ALL_FINGERS: &str = "gaps 2
+column 0 0 0 0 0
+column 7 1 0 1 0
+column 7 1 1 1 1
+column 7 1 0 1 0
+column 7 2 1 2 1
+column 7 2 0 2 0
+column 7 2 1 2 1
+column 7 3 0 3 0
+column 7 3 1 3 1
+column 7 3 0 3 0
+column 7 4 1 4 1
+column 7 4 0 4 0
+column 7 4 1 4 1
+end
+";
+
+const MANY_ACCEPTED: &str =
+    "status 0 ok\ncell many\ncolumns 13\ngaps 2\nwidth 15\nlemmas 2\nfilled 0\n";
+
+#[test]
+fn checks_certificates_without_fingers(rt: HostRuntime) -> Result<(), Fail> {
+    let alloc = rt.alloc();
+    let words = "check - c.sp many l.clog --trails";
+    let whole = [WITHOUT, OTHER_FINGERS, ALL_FINGERS];
+    assert!(rt; is_judged_of(alloc, words, MANY, &whole, Status::Done, &[MANY_ACCEPTED])?);
+    let no_choice = [OTHER_FINGERS, ALL_FINGERS];
+    let many = ["status 7 rejected\ntrails Choices gate b\n"];
+    assert!(rt; is_judged_of(alloc, words, MANY, &no_choice, Status::Rejected, &many)?);
+    let few = ["cellgen-trails 3\nwithout P 0\n", HEAD, FIRST, OTHERS, ROW];
+    let gates = ["status 7 rejected\ntrails Gates\n"];
+    assert!(rt; is_judged(alloc, &few, Status::Rejected, &gates)?);
+    Ok(())
+}
+
+const MANY_ROW: &str = "column 0 gate a p vdd b 20 n gnd b 10
+column 1 gate b p y0 vdd 20 n y0 gnd 10
+column 2 gate b p vdd y0 20 n gnd y0 10
+column 3 gate b p y0 vdd 20 n y0 gnd 10
+column 4 gate b p vdd y1 20 n gnd y1 10
+column 5 gate b p y1 vdd 20 n y1 gnd 10
+column 6 gate b p vdd y1 20 n gnd y1 10
+column 7 gate b p y2 vdd 20 n y2 gnd 10
+column 8 gate b p vdd y2 20 n gnd y2 10
+column 9 gate b p y2 vdd 20 n y2 gnd 10
+column 10 gate b p vdd y3 20 n gnd y3 10
+column 11 gate b p y3 vdd 20 n y3 gnd 10
+column 12 gate b p vdd y3 20 n gnd y3 10
+";
+
+#[test]
+fn finds_a_row_without_fingers(rt: HostRuntime) -> Result<(), Fail> {
+    let head = "status 0 ok\ncell many\ncolumns 13\ngaps 2\nwidth 15\n";
+    let said = [head, MANY_ROW, "lemmas 2\nfilled 0\n"];
+    assert!(rt;
+        tells(
+            rt.alloc(),
+            "plan - c.sp many --trails",
+            ["", MANY, ""],
+            Status::Done,
+            &said
+        )?
+    );
     Ok(())
 }

@@ -144,12 +144,16 @@ const REFUSED: End = End {
     files: &[],
 };
 
-// A gate of seven different fingers over seven: after its fifth column 7! / 2! * 2^5 = 80,640 ways to pair them.
+// A gate of seven different fingers over seven: after its fifth column 7! / 2! * 2^5 = 80,640 ways to pair them. P
+// fingers follow each other three and four in a row, N fingers two and five. So each row alone has one gap, and both
+// have two.
 fn put_crowded(alloc: Global, text: &mut String) -> Result<(), Fail> {
     text.push_str(".SUBCKT many g vdd gnd\n")?;
     for at in 0..7u32 {
+        let (p, n) = (at + u32::from(at > 2), at + u32::from(at > 1));
+        let (q, m) = (p + 1, n + 1);
         let pair = format!(in alloc;
-            "MP{at} p{at} g q{at} vdd p W=3u L=0.6u\nMN{at} n{at} g m{at} gnd n W=3u L=0.6u\n"
+            "MP{at} p{p} g p{q} vdd p W=3u L=0.6u\nMN{at} n{n} g n{m} gnd n W=3u L=0.6u\n"
         )?;
         text.push_str(pair.as_str())?;
     }

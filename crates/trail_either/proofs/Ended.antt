@@ -1,68 +1,57 @@
 -- What the search of a version found or proved, as what a search of both does.
 use Rattle.std.specs.Prelude.{ℕ, ◌≡◌, ◌||◌, Bool, true, false, cond, List, [], ◌∷◌, map}
 use Rattle.std.specs.List.{filter, list_any, range_with_len}
-use Rattle.std.proofs.Common.{refl, ap, inl, inr}
+use Rattle.std.proofs.Common.{refl, ap}
 use Rattle.cell_num.specs.declared.finger.Fingers.{Fingers}
 use Rattle.cell_num.specs.declared.net.NetNo.{NetNo}
 use Rattle.row_model.specs.declared.column.Column.{Column}
 use Rattle.log_check.specs.Accepted.{WithKinds}
 use Rattle.trail_log.specs.declared.trails.TrailCertificate.{TrailCertificate}
-use Rattle.order_log.specs.declared.certificate.OrderCertificate.{OrderCertificate}
-use Rattle.pool_log.specs.declared.lemma.PoolLine.{PoolLine}
-use Rattle.trail_search.specs.Ended.{IsCertified, IsCrowded, IsTrailFound, IsTrailSpent}
+use Rattle.fewer_log.specs.declared.certificate.FewerCertificate.{FewerCertificate}
+use Rattle.trail_search.specs.Ended.{IsCertified, IsTrailFound, IsTrailSpent}
 use Rattle.trail_search.specs.Filling.{is_uneven, uneven_gates}
-use Rattle.pool_trails.specs.declared.opening.Opening.TheVariants.{Crowded, Longer}
+use Rattle.pool_trails.specs.declared.opening.Opening.{Opening}
 use Rattle.pool_trails.specs.Ended.{IsPoolCertified, IsPoolFound, IsPoolSpent}
 use Rattle.trail_either.specs.declared.evidence.TrailEvidence.TheVariants.{Filled, Pools}
-use Rattle.trail_either.specs.Ended.{EndsPools, HasHalfColumns, IsEitherCertified, IsEitherFound, IsEitherSpent}
+use Rattle.trail_either.specs.Ended.{EndsLonger, HasHalfColumns, IsEitherCertified, IsEitherFound, IsEitherSpent, IsNext}
 
 filled_certified : (f : Fingers) (row : List Column) (trails : TrailCertificate) →
     WithKinds f (λ k. IsCertified k f row trails) → WithKinds f (λ k. IsEitherCertified k f row (Filled trails))
 filled_certified f row trails (k, of_k, some_k, is) =
     (k, of_k, some_k, record { accepted = is.accepted; few_ways = is.few_ways; lists = is.lists; fits = is.fits })
 
-pools_certified : (f : Fingers) (row : List Column) (pools : OrderCertificate PoolLine) →
-    WithKinds f (λ k. IsPoolCertified k f row pools) → WithKinds f (λ k. IsEitherCertified k f row (Pools pools))
-pools_certified f row pools (k, of_k, some_k, is) =
+pools_certified : (f : Fingers) (row : List Column) (c : FewerCertificate) →
+    WithKinds f (λ k. IsPoolCertified k f row c) → WithKinds f (λ k. IsEitherCertified k f row (Pools c))
+pools_certified f row c (k, of_k, some_k, is) =
     (k, of_k, some_k, record { accepted = is.accepted; few_ways = is.few_ways; lists = is.lists; fits = is.fits })
 
 module _ (f : Fingers) (budget : ℕ) (row : List Column) where
-  pub filled_found : (trails : TrailCertificate) → EndsPools f → IsTrailFound f budget row trails
+  pub filled_found : (trails : TrailCertificate) → EndsLonger f → IsTrailFound f budget row trails
       → IsEitherFound f budget row (Filled trails)
   filled_found trails ends is =
       record { first = is.first; certified = filled_certified f row trails is.certified; within = (ends, is) }
 
-  pub longer_found : (pools : OrderCertificate PoolLine) → HasHalfColumns f → IsPoolFound Longer f budget row pools
-      → IsEitherFound f budget row (Pools pools)
-  longer_found pools some is =
-      record { first = is.first; certified = pools_certified f row pools is.certified; within = inl (some, is) }
-
-  pub crowded_found : (pools : OrderCertificate PoolLine) (gate : NetNo) → EndsPools f → IsCrowded f gate
-      → IsPoolFound Crowded f budget row pools → IsEitherFound f budget row (Pools pools)
-  crowded_found pools gate ends crowded is = record {
+  pub pools_found : (c : FewerCertificate) (opening : Opening) → IsNext f opening → IsPoolFound opening f budget row c
+      → IsEitherFound f budget row (Pools c)
+  pools_found c opening next is = record {
     first = is.first;
-    certified = pools_certified f row pools is.certified;
-    within = inr (ends, (gate, crowded), is);
+    certified = pools_certified f row c is.certified;
+    within = (opening, next, is);
   }
 
 module _ (f : Fingers) (budget proved : ℕ) where
-  pub filled_spent : (trails : TrailCertificate) → EndsPools f → IsTrailSpent f budget trails proved
+  pub filled_spent : (trails : TrailCertificate) → EndsLonger f → IsTrailSpent f budget trails proved
       → IsEitherSpent f budget (Filled trails) proved
   filled_spent trails ends is =
       record { lists_none = is.lists_none; low = is.low; fits = is.fits; within = (ends, is) }
 
-  pub longer_spent : (pools : OrderCertificate PoolLine) → HasHalfColumns f → IsPoolSpent Longer f budget pools proved
-      → IsEitherSpent f budget (Pools pools) proved
-  longer_spent pools some is =
-      record { lists_none = is.lists_none; low = is.low; fits = is.fits; within = inl (some, is) }
-
-  pub crowded_spent : (pools : OrderCertificate PoolLine) (gate : NetNo) → EndsPools f → IsCrowded f gate
-      → IsPoolSpent Crowded f budget pools proved → IsEitherSpent f budget (Pools pools) proved
-  crowded_spent pools gate ends crowded is = record {
+  pub pools_spent : (c : FewerCertificate) (opening : Opening) → IsNext f opening
+      → IsPoolSpent opening f budget c proved → IsEitherSpent f budget (Pools c) proved
+  pools_spent c opening next is = record {
     lists_none = is.lists_none;
     low = is.low;
     fits = is.fits;
-    within = inr (ends, (gate, crowded), is);
+    within = (opening, next, is);
   }
 
 abbrev net_of : ℕ → NetNo

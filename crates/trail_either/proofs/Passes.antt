@@ -24,9 +24,9 @@ pub passes : (f : Fingers) (k : Kinds) (evidence : TrailEvidence) (gaps : ℕ) �
 passes f k (Filled trails) gaps of_k some_k accepted =
     let (j, of_j, some_j, best) = accepted.passes in
     record { proved = least_gaps f trails; best = for_kinds f j (λ kinds. BestPasses kinds f (least_gaps f trails) trails.best gaps) of_j some_j best k of_k some_k }
-passes f k (Pools pools) gaps of_k some_k accepted =
+passes f k (Pools c) gaps of_k some_k accepted =
     let (j, of_j, some_j, best) = accepted.passes in
-    record { proved = gaps_proved accepted.ends; best = for_kinds f j (λ kinds. BestPasses kinds f (gaps_proved accepted.ends) pools.best gaps) of_j some_j best k of_k some_k }
+    record { proved = gaps_proved accepted.ends; best = for_kinds f j (λ kinds. BestPasses kinds f (gaps_proved accepted.ends) c.pools.best gaps) of_j some_j best k of_k some_k }
 
 -- another row that passes where its own does may stand in its place
 pub accepted_with : (f : Fingers) (k : Kinds) (evidence : TrailEvidence) (gaps : ℕ) (best : Best) → AreKinds f k → AreSomeKinds k → IsEitherAccepted f evidence gaps → ((proved : ℕ) → BestPasses k f proved (best_in evidence) gaps → RowPasses k f proved best gaps) → IsEitherAccepted f (either_listing evidence best) gaps
@@ -39,24 +39,34 @@ accepted_with f k (Filled trails) gaps best of_k some_k accepted each = record {
     passed : WithKinds f (λ (j : Kinds). BestPasses j f (least_gaps f trails) trails.best gaps) → WithKinds f (λ (j : Kinds). BestPasses j f (least_gaps f trails) (Some best) gaps)
     passed (j, of_j, some_j, there) =
         (k, of_k, some_k, each (least_gaps f trails) (for_kinds f j (λ kinds. BestPasses kinds f (least_gaps f trails) trails.best gaps) of_j some_j there k of_k some_k))
-accepted_with f k (Pools pools) gaps best of_k some_k accepted each = record {
+accepted_with f k (Pools c) gaps best of_k some_k accepted each = record {
+  may = accepted.may;
   ends = accepted.ends;
   lemmas = accepted.lemmas;
   passes = passed accepted.passes;
 }
   where
-    passed : WithKinds f (λ (j : Kinds). BestPasses j f (gaps_proved accepted.ends) pools.best gaps) → WithKinds f (λ (j : Kinds). BestPasses j f (gaps_proved accepted.ends) (Some best) gaps)
+    passed : WithKinds f (λ (j : Kinds). BestPasses j f (gaps_proved accepted.ends) c.pools.best gaps) → WithKinds f (λ (j : Kinds). BestPasses j f (gaps_proved accepted.ends) (Some best) gaps)
     passed (j, of_j, some_j, there) =
-        (k, of_k, some_k, each (gaps_proved accepted.ends) (for_kinds f j (λ kinds. BestPasses kinds f (gaps_proved accepted.ends) pools.best gaps) of_j some_j there k of_k some_k))
+        (k, of_k, some_k, each (gaps_proved accepted.ends) (for_kinds f j (λ kinds. BestPasses kinds f (gaps_proved accepted.ends) c.pools.best gaps) of_j some_j there k of_k some_k))
 
 pub few_with : (f : Fingers) (evidence : TrailEvidence) (best : Best) → HasFewEitherWays f evidence → HasFewEitherWays f (either_listing evidence best)
 few_with f (Filled trails) best few = few
-few_with f (Pools pools) best few = few
+few_with f (Pools c) best few = few
 
 pub best_with : (evidence : TrailEvidence) (best : Best) → best_in (either_listing evidence best) ≡ Some best
 best_with (Filled trails) best = refl
-best_with (Pools pools) best = refl
+best_with (Pools c) best = refl
 
 pub fits_with : (k : Kinds) (evidence : TrailEvidence) (best : Best) → EitherFits k evidence → BestFits k best → EitherFits k (either_listing evidence best)
 fits_with k (Filled trails) best fits row = record { fill = fits.fill; increase = fits.increase; order = fits.order; lemmas = fits.lemmas; best = row }
-fits_with k (Pools pools) best fits row = record { fill = fits.fill; increase = fits.increase; order = fits.order; lemmas = fits.lemmas; best = row }
+fits_with k (Pools c) best fits row = record {
+  out = fits.out;
+  pools = record {
+    fill = fits.pools.fill;
+    increase = fits.pools.increase;
+    order = fits.pools.order;
+    lemmas = fits.pools.lemmas;
+    best = row;
+  };
+}

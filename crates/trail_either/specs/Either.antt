@@ -1,40 +1,45 @@
--- What a certificate by trails of either version lists, its text, and whether a text can hold it.
+-- What a certificate by trails lists, its text, and whether a text can hold it.
 use Rattle.std.specs.Prelude.{ℕ, List, Option, Some, length}
 use Rattle.row_state.specs.declared.kind.Kinds.{Kinds}
 use Rattle.bound_log.specs.declared.log.Best.{Best}
 use Rattle.trail_log.specs.Fits.{TrailsFit}
 use Rattle.trail_log.specs.Text.{trails_text}
-use Rattle.pool_log.specs.Fits.{PoolsFit}
-use Rattle.pool_log.specs.Text.{pool_text}
+use Rattle.order_log.specs.declared.certificate.OrderCertificate.{OrderCertificate}
+use Rattle.pool_log.specs.declared.lemma.PoolLine.{PoolLine}
+use Rattle.fewer_log.specs.Fits.{FewerFits}
+use Rattle.fewer_log.specs.Text.{fewer_text}
 use Rattle.trail_either.specs.declared.evidence.TrailEvidence.{TrailEvidence}
 use Rattle.trail_either.specs.declared.evidence.TrailEvidence.TheVariants.{Filled, Pools}
 
 abbrev pub lemma_count : TrailEvidence → ℕ
 lemma_count (Filled trails) = length trails.lemmas
-lemma_count (Pools pools) = length pools.lemmas
+lemma_count (Pools c) = length c.pools.lemmas
 
 -- how many gates it lists as filled
 abbrev pub fill_count : TrailEvidence → ℕ
 fill_count (Filled trails) = length trails.fill
-fill_count (Pools pools) = length pools.fill
+fill_count (Pools c) = length c.pools.fill
 
 -- the row that it lists
 abbrev pub best_in : TrailEvidence → Option Best
 best_in (Filled trails) = trails.best
-best_in (Pools pools) = pools.best
+best_in (Pools c) = c.pools.best
+
+abbrev pub pools_with : OrderCertificate PoolLine → Best → OrderCertificate PoolLine
+pools_with pools best =
+    record { fill = pools.fill; order = pools.order; lemmas = pools.lemmas; best = Some best }
 
 -- the same with this row in place of its own
 abbrev pub either_listing : TrailEvidence → Best → TrailEvidence
 either_listing (Filled trails) best =
     Filled (record { fill = trails.fill; order = trails.order; lemmas = trails.lemmas; best = Some best })
-either_listing (Pools pools) best =
-    Pools (record { fill = pools.fill; order = pools.order; lemmas = pools.lemmas; best = Some best })
+either_listing (Pools c) best = Pools (record { out = c.out; pools = pools_with c.pools best })
 
 -- a text can hold it
 abbrev pub EitherFits : Kinds → TrailEvidence → Type 0
 EitherFits k (Filled trails) = TrailsFit k trails
-EitherFits k (Pools pools) = PoolsFit k pools
+EitherFits k (Pools c) = FewerFits k c
 
 abbrev pub either_text : List ℕ → TrailEvidence → List ℕ
 either_text name (Filled trails) = trails_text name trails
-either_text name (Pools pools) = pool_text name pools
+either_text name (Pools c) = fewer_text name c

@@ -1,6 +1,7 @@
 -- How a search ended: with the first least row and its certificate, or with what is proved without a row.
 use Rattle.std.specs.Prelude.{ℕ, ◌≡◌, ◌≢◌, ◌⊎◌, List, [], IsNone}
 use Rattle.cell_num.specs.declared.finger.Fingers.{Fingers}
+use Rattle.cell_num.specs.declared.finger.Row.TheVariants.{P, N}
 use Rattle.cell_num.specs.declared.net.NetNo.{NetNo}
 use Rattle.row_model.specs.declared.column.Column.{Column}
 use Rattle.row_model.specs.Gaps.{gaps_of}
@@ -10,7 +11,8 @@ use Rattle.row_search.specs.First.{IsFirstLeast}
 use Rattle.trail_check.specs.Accepted.{IsLow}
 use Rattle.trail_search.specs.Ended.{IsCrowded, IsTrailFound, IsTrailSpent}
 use Rattle.trail_search.specs.Filling.{uneven_gates}
-use Rattle.pool_trails.specs.declared.opening.Opening.TheVariants.{Crowded, Longer}
+use Rattle.pool_trails.specs.declared.opening.Opening.{Opening}
+use Rattle.pool_trails.specs.declared.opening.Opening.TheVariants.{Crowded, Longer, Without}
 use Rattle.pool_trails.specs.Ended.{IsPoolCrowded, IsPoolFound, IsPoolSpent}
 use Rattle.trail_either.specs.declared.evidence.TrailEvidence.{TrailEvidence}
 use Rattle.trail_either.specs.declared.evidence.TrailEvidence.TheVariants.{Filled, Pools}
@@ -33,20 +35,27 @@ abbrev pub HasHalfColumns : Fingers → Type 0
 HasHalfColumns f = uneven_gates f ≢ []
 
 -- No gate has half columns; or a search that leaves open those of one row ends without a row, for a cause of its own.
-abbrev pub EndsPools : Fingers → Type 0
-EndsPools f = (uneven_gates f ≡ []) ⊎ IsPoolCrowded Longer f
+abbrev pub EndsLonger : Fingers → Type 0
+EndsLonger f = (uneven_gates f ≡ []) ⊎ IsPoolCrowded Longer f
 
--- a search for a certificate of version 1 ends at some gate, without a row
-abbrev pub EndsAtGate : Fingers → Type 0
-EndsAtGate f = (gate : NetNo) × IsCrowded f gate
+-- so it is, and a search for a certificate of version 1 ends at some gate, without a row
+pub record EndsAtGate (f : Fingers) : Type 0 where
+  pub longer : EndsLonger f
+  pub gate : NetNo
+  pub filled : IsCrowded f gate
 
--- A search within the budget found it. One for version 1 comes where the first one with pools ends; where it ends at a
--- gate, the second one with pools comes.
+-- When a search with pools comes, by what it leaves open: where those before it end without a row.
+abbrev pub IsNext : Fingers → Opening → Type 0
+IsNext f Longer = HasHalfColumns f
+IsNext f Crowded = EndsAtGate f
+IsNext f (Without N) = EndsAtGate f × IsPoolCrowded Crowded f
+IsNext f (Without P) = EndsAtGate f × IsPoolCrowded Crowded f × IsPoolCrowded (Without N) f
+
+-- A search within the budget found it.
 abbrev pub IsFoundWithin : Fingers → ℕ → List Column → TrailEvidence → Type 0
-IsFoundWithin f budget row (Filled trails) = EndsPools f × IsTrailFound f budget row trails
-IsFoundWithin f budget row (Pools pools) =
-    (HasHalfColumns f × IsPoolFound Longer f budget row pools)
-    ⊎ (EndsPools f × EndsAtGate f × IsPoolFound Crowded f budget row pools)
+IsFoundWithin f budget row (Filled trails) = EndsLonger f × IsTrailFound f budget row trails
+IsFoundWithin f budget row (Pools c) =
+    (opening : Opening) × IsNext f opening × IsPoolFound opening f budget row c
 
 -- the row is the first least one, and is certified by what a search found
 pub record IsEitherFound (f : Fingers) (budget : ℕ) (row : List Column) (evidence : TrailEvidence) : Type 0 where
@@ -56,10 +65,9 @@ pub record IsEitherFound (f : Fingers) (budget : ℕ) (row : List Column) (evide
 
 -- the budget was spent so by one of these searches
 abbrev pub IsSpentWithin : Fingers → ℕ → TrailEvidence → ℕ → Type 0
-IsSpentWithin f budget (Filled trails) proved = EndsPools f × IsTrailSpent f budget trails proved
-IsSpentWithin f budget (Pools pools) proved =
-    (HasHalfColumns f × IsPoolSpent Longer f budget pools proved)
-    ⊎ (EndsPools f × EndsAtGate f × IsPoolSpent Crowded f budget pools proved)
+IsSpentWithin f budget (Filled trails) proved = EndsLonger f × IsTrailSpent f budget trails proved
+IsSpentWithin f budget (Pools c) proved =
+    (opening : Opening) × IsNext f opening × IsPoolSpent opening f budget c proved
 
 -- The budget is spent. The certificate lists no row, and its lemmas prove that no arrangement has fewer gaps.
 pub record IsEitherSpent (f : Fingers) (budget : ℕ) (evidence : TrailEvidence) (proved : ℕ) : Type 0 where
@@ -70,9 +78,11 @@ pub record IsEitherSpent (f : Fingers) (budget : ℕ) (evidence : TrailEvidence)
 
 -- A search for a certificate of version 1 ends at the gate. Those with pools before and after it end without a row.
 pub record IsEitherCrowded (f : Fingers) (gate : NetNo) : Type 0 where
-  pub ends : EndsPools f
+  pub longer : EndsLonger f
   pub filled : IsCrowded f gate
-  pub pools : IsPoolCrowded Crowded f
+  pub crowded : IsPoolCrowded Crowded f
+  pub without_n : IsPoolCrowded (Without N) f
+  pub without_p : IsPoolCrowded (Without P) f
 
 abbrev pub IsFound : Fingers → ℕ → EitherFound → Type 0
 IsFound f budget found = IsEitherFound f budget found.row found.evidence

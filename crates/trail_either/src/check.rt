@@ -35,6 +35,6 @@ pub fn check_either(
 {
     match evidence {
         TrailEvidence::Filled(trails) => check_trails(alloc, fingers, trails),
-        TrailEvidence::Pools(pools) => check_certificate(alloc, fingers, pools),
+        TrailEvidence::Pools(certificate) => check_certificate(alloc, fingers, certificate),
     }
 }

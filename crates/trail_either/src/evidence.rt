@@ -1,9 +1,9 @@
 ghost use Rattle.std.specs.Prelude.{◌≡◌};
-ghost use Rattle.trail_either.specs.Either.{best_in, either_listing, fill_count, lemma_count};
+ghost use Rattle.trail_either.specs.Either.{best_in, either_listing, fill_count, lemma_count, pools_with};
 ghost use Rattle.trail_either.specs.declared.evidence.TrailEvidence.TheVariants.{Filled, Pools};
 
 use bound_log::Best;
-use order_log::OrderCertificate;
+use fewer_log::FewerCertificate;
 use pool_log::PoolCertificate;
 use trail_log::TrailCertificate;
 
@@ -12,8 +12,9 @@ use trail_log::TrailCertificate;
 pub enum TrailEvidence {
     /// Of version 1: nodes of gates that are left open are merged.
     Filled(TrailCertificate),
-    /// Of version 2: lemmas tell the balances of the pools of gates that are left open.
-    Pools(PoolCertificate),
+    /// Of version 2: lemmas tell the balances of the pools of gates that are left open. Of version 3: so they do, and
+    /// some fingers are left out.
+    Pools(FewerCertificate),
 }
 
 fn filled_listing(trails: TrailCertificate, best: Best) -> TrailEvidence
@@ -34,21 +35,30 @@ fn filled_listing(trails: TrailCertificate, best: Best) -> TrailEvidence
     })
 }
 
-fn pools_listing(pools: PoolCertificate, best: Best) -> TrailEvidence
-    ensures { result ≡ either_listing (Pools pools) best }
+fn pools_with(pools: PoolCertificate, best: Best) -> PoolCertificate
+    ensures { result ≡ pools_with pools best }
 {
-    let OrderCertificate {
+    let PoolCertificate {
         fill,
         order,
         lemmas,
         best: own,
     } = pools;
     drop(own);
-    TrailEvidence::Pools(OrderCertificate {
+    PoolCertificate {
         fill,
         order,
         lemmas,
         best: Some(best),
+    }
+}
+
+fn pools_listing(certificate: FewerCertificate, best: Best) -> TrailEvidence
+    ensures { result ≡ either_listing (Pools certificate) best }
+{
+    TrailEvidence::Pools(FewerCertificate {
+        out: certificate.out,
+        pools: pools_with(certificate.pools, best),
     })
 }
 
@@ -59,7 +69,7 @@ impl TrailEvidence {
     {
         match self {
             TrailEvidence::Filled(trails) => trails.lemmas.len() as u64,
-            TrailEvidence::Pools(pools) => pools.lemmas.len() as u64,
+            TrailEvidence::Pools(certificate) => certificate.pools.lemmas.len() as u64,
         }
     }
 
@@ -69,7 +79,7 @@ impl TrailEvidence {
     {
         match self {
             TrailEvidence::Filled(trails) => trails.fill.len() as u64,
-            TrailEvidence::Pools(pools) => pools.fill.len() as u64,
+            TrailEvidence::Pools(certificate) => certificate.pools.fill.len() as u64,
         }
     }
 
@@ -79,7 +89,7 @@ impl TrailEvidence {
     {
         match self {
             TrailEvidence::Filled(trails) => &trails.best,
-            TrailEvidence::Pools(pools) => &pools.best,
+            TrailEvidence::Pools(certificate) => &certificate.pools.best,
         }
     }
 
@@ -89,7 +99,7 @@ impl TrailEvidence {
     {
         match self {
             TrailEvidence::Filled(trails) => filled_listing(trails, best),
-            TrailEvidence::Pools(pools) => pools_listing(pools, best),
+            TrailEvidence::Pools(certificate) => pools_listing(certificate, best),
         }
     }
 }

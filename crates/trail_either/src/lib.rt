@@ -1,4 +1,4 @@
-// Certificates by trails of either version: reading, writing, checking and searching.
+// Certificates by trails of any version: reading, writing, checking and searching.
 #![tactic(auto)]
 
 mod check;

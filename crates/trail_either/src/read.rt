@@ -8,8 +8,8 @@ ghost use Rattle.trail_either.specs.Reading.{either_of, has_pools};
 use crate::TrailEvidence;
 use bound_log::LogFault;
 use cell_num::{MOST_BYTES, Name};
+use fewer_log::read_fewer;
 use log_lines::{first_line, is_word};
-use pool_log::read_pools;
 use row_state::Kinds;
 use std::alloc::Global;
 use trail_log::read_trails;
@@ -18,7 +18,9 @@ fn has_pools(bytes: &[u8]) -> bool
     ensures { result ≡ has_pools bytes.now }
 {
     match first_line(bytes) {
-        Some(first) => is_word(first.line, b"cellgen-trails 2"),
+        Some(first) => {
+            is_word(first.line, b"cellgen-trails 2") || is_word(first.line, b"cellgen-trails 3")
+        }
         None => false,
     }
 }
@@ -36,8 +38,8 @@ fn read_version(
     ensures fault { IfErr result (λ f. f ≢ fault.NoMemory → either_of bytes.now name.now kinds.now ≡ Err f) }
 {
     if has_pools(bytes) {
-        match read_pools(alloc, bytes, name, kinds) {
-            Ok(pools) => Ok(TrailEvidence::Pools(pools)),
+        match read_fewer(alloc, bytes, name, kinds) {
+            Ok(certificate) => Ok(TrailEvidence::Pools(certificate)),
             Err(fault) => Err(fault),
         }
     } else {

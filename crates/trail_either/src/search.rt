@@ -1,12 +1,13 @@
-ghost use Rattle.std.specs.Prelude.{◌≡◌, IfErr, IfOk};
+ghost use Rattle.std.specs.Prelude.{◌≡◌, IfErr, IfNone, IfOk, IfSome};
 ghost use Rattle.std.specs.List.{list_any, range_with_len};
 ghost use Rattle.cell_num.specs.Fingers.{AreFingers};
 ghost use Rattle.trail_search.specs.Ended.{IsCrowded};
 ghost use Rattle.trail_search.specs.Filling.{is_uneven};
-ghost use Rattle.trail_either.specs.Ended.{EndsPools, IsFound, Stops};
+ghost use Rattle.pool_trails.specs.Ended.{IsPoolCrowded};
+ghost use Rattle.trail_either.specs.Ended.{EndsLonger, IsFound, IsNext, Stops};
 
 use crate::{EitherFound, EitherStop, TrailEvidence};
-use cell_num::{Fingers, NetNo};
+use cell_num::{Fingers, NetNo, Row};
 use pool_trails::{Opening, PoolStop, search_pool_row};
 use std::alloc::Global;
 use trail_search::{TrailStop, search_trails};
@@ -24,8 +25,41 @@ fn has_half_columns(fingers: &Fingers) -> bool
     (0..fingers.nets).any(|gate| is_uneven(fingers, gate))
 }
 
-// With pools of those gates alone that have too many ways to be filled, after a search that ended at the gate.
-#[tactic(auto, using(crate::proofs::Ended::crowded_spent))]
+// A search with pools: its row; or none, where it ends without a row for a cause of its own.
+#[tactic(auto, using(crate::proofs::Ended::pools_found, crate::proofs::Ended::pools_spent))]
+fn search_pools(
+    alloc: Global,
+    fingers: &Fingers,
+    opening: Opening,
+    budget: u64,
+) -> Result<Option<EitherFound>, EitherStop>
+    requires fingers { AreFingers fingers.now }
+    requires next { IsNext fingers.now opening }
+    ensures found { IfOk result (λ r. IfSome r (IsFound fingers.now budget)) }
+    ensures ended { IfOk result (λ r. IfNone r (IsPoolCrowded opening fingers.now)) }
+    ensures stopped { IfErr result (Stops fingers.now budget) }
+{
+    match search_pool_row(alloc, fingers, opening, budget) {
+        Ok(found) => Ok(Some(EitherFound {
+            row: found.row,
+            evidence: TrailEvidence::Pools(found.certificate),
+        })),
+        Err(
+            PoolStop::Unfinished {
+                certificate,
+                proved,
+            },
+        ) => Err(EitherStop::Unfinished {
+            evidence: TrailEvidence::Pools(certificate),
+            proved,
+        }),
+        Err(PoolStop::Crowded) => Ok(None),
+        Err(PoolStop::NoMemory) => Err(EitherStop::NoMemory),
+    }
+}
+
+// After a search for version 1 that ended at the gate: with pools of those gates alone that have too many ways to be
+// filled, then with fingers of one row left out where they pair in too many ways.
 fn search_crowded(
     alloc: Global,
     fingers: &Fingers,
@@ -33,22 +67,20 @@ fn search_crowded(
     gate: NetNo,
 ) -> Result<EitherFound, EitherStop>
     requires fingers { AreFingers fingers.now }
-    requires ends { EndsPools fingers.now }
+    requires longer { EndsLonger fingers.now }
     requires gate { IsCrowded fingers.now gate }
     ensures found { IfOk result (IsFound fingers.now budget) }
     ensures stopped { IfErr result (Stops fingers.now budget) }
 {
-    match search_pool_row(alloc, fingers, Opening::Crowded, budget) {
-        Ok(found) => Ok(EitherFound {
-            row: found.row,
-            evidence: TrailEvidence::Pools(found.pools),
-        }),
-        Err(PoolStop::Unfinished { pools, proved }) => Err(EitherStop::Unfinished {
-            evidence: TrailEvidence::Pools(pools),
-            proved,
-        }),
-        Err(PoolStop::Crowded) => Err(EitherStop::Choices { gate }),
-        Err(PoolStop::NoMemory) => Err(EitherStop::NoMemory),
+    if let Some(found) = search_pools(alloc, fingers, Opening::Crowded, budget)? {
+        return Ok(found);
+    }
+    if let Some(found) = search_pools(alloc, fingers, Opening::Without(Row::N), budget)? {
+        return Ok(found);
+    }
+    match search_pools(alloc, fingers, Opening::Without(Row::P), budget)? {
+        Some(found) => Ok(found),
+        None => Err(EitherStop::Choices { gate }),
     }
 }
 
@@ -56,7 +88,7 @@ fn search_crowded(
 #[tactic(auto, using(crate::proofs::Ended::filled_found, crate::proofs::Ended::filled_spent))]
 fn search_filled(alloc: Global, fingers: &Fingers, budget: u64) -> Result<EitherFound, EitherStop>
     requires fingers { AreFingers fingers.now }
-    requires ends { EndsPools fingers.now }
+    requires longer { EndsLonger fingers.now }
     ensures found { IfOk result (IsFound fingers.now budget) }
     ensures stopped { IfErr result (Stops fingers.now budget) }
 {
@@ -78,7 +110,8 @@ fn search_filled(alloc: Global, fingers: &Fingers, budget: u64) -> Result<Either
 /// what is proved when the budget is spent. Where some gate has half columns, `search_pool_row` leaves open those of
 /// one row first, since far fewer choices are listed so. Where no gate has any, or that ends without a row though
 /// units are left, `search_trails` is next. Where it ends at a gate, `search_pool_row` leaves open the gates alone that
-/// have too many ways to be filled. Where this finds no row either, that gate is told. Each has the whole budget.
+/// have too many ways to be filled. Then it leaves out the fingers of one row on gates that pair in too many ways:
+/// first those of the N row. Where this finds no row either, that gate is told. Each has the whole budget.
 pub fn search_either(
     alloc: Global,
     fingers: &Fingers,
@@ -91,16 +124,8 @@ pub fn search_either(
     if !has_half_columns(fingers) {
         return search_filled(alloc, fingers, budget);
     }
-    match search_pool_row(alloc, fingers, Opening::Longer, budget) {
-        Ok(found) => Ok(EitherFound {
-            row: found.row,
-            evidence: TrailEvidence::Pools(found.pools),
-        }),
-        Err(PoolStop::Unfinished { pools, proved }) => Err(EitherStop::Unfinished {
-            evidence: TrailEvidence::Pools(pools),
-            proved,
-        }),
-        Err(PoolStop::Crowded) => search_filled(alloc, fingers, budget),
-        Err(PoolStop::NoMemory) => Err(EitherStop::NoMemory),
+    match search_pools(alloc, fingers, Opening::Longer, budget)? {
+        Some(found) => Ok(found),
+        None => search_filled(alloc, fingers, budget),
     }
 }

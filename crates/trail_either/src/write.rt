@@ -7,7 +7,7 @@ ghost use Rattle.trail_either.specs.Reading.{either_of};
 
 use crate::TrailEvidence;
 use cell_num::{Name, NoMemory};
-use pool_log::write_pools;
+use fewer_log::write_fewer;
 use std::alloc::Global;
 use trail_log::write_trails;
 
@@ -26,6 +26,6 @@ pub fn write_either(
 {
     match evidence {
         TrailEvidence::Filled(trails) => write_trails(alloc, name, trails),
-        TrailEvidence::Pools(pools) => write_pools(alloc, name, pools),
+        TrailEvidence::Pools(certificate) => write_fewer(alloc, name, certificate),
     }
 }

@@ -1,5 +1,5 @@
 -- What the units of a visit went for.
-use Rattle.std.proofs.Common.{ℕ, ◌≡◌, ◌≢◌, ◌+◌, ◌-◌, ◌<◌, ◌≤◌, Bool, cond, max, [], ◌∷◌, ◌++◌, length, length-append, sum_by, inl, inr, refl, sym, ap, subst, arith, All, ◌∙◌}
+use Rattle.std.proofs.Common.{ℕ, ◌≡◌, ◌≢◌, ◌+◌, ◌-◌, ◌<◌, ◌≤◌, Bool, true, cond, max, [], ◌∷◌, ◌++◌, length, length-append, sum_by, inl, inr, refl, sym, ap, subst, arith, All, ◌∙◌}
 use Rattle.std.proofs.lemmas.Bool.{cases_Bool}
 use Rattle.std.proofs.lemmas.List.Elements.{All-append, All-nil}
 use Rattle.std.proofs.lemmas.List.Sums.{sum_by-append, sum_by-cons}
@@ -33,40 +33,43 @@ Differ a b = a ≢ b
 
 -- ---- attempts
 
-pub tries_none : (k : Kinds) (s : State) (bound left left_after : ℕ) → left_after ≡ left → TriesOnce k s bound left left_after
-tries_none k s bound left left_after e = record { tries = []; tried = All-nil (IsTry k); tried_within = λ most here. All-nil (IsTryWithin k most); few = omega arith; many = omega (arith, e) }
+pub tries_none : (k : Kinds) (may_try : Bool) (s : State) (bound left left_after : ℕ) → left_after ≡ left → TriesOnce k may_try s bound left left_after
+tries_none k may_try s bound left left_after e = record { tries = []; tried = All-nil (IsTry k may_try); tried_within = λ most here. All-nil (IsTryWithin k most); few = omega arith; many = omega (arith, e) }
 
-pub tries_once : (k : Kinds) (s : State) (f : Fingers) (allowed left left_after : ℕ) → IsState k s → f ≡ fingers_behind k s → AttemptsOnce f allowed left left_after → TriesOnce k s (allowed + 1) left left_after
-tries_once k s f allowed left left_after valid is (inl e) = tries_none k s (allowed + 1) left left_after e
+pub tries_once : (k : Kinds) (s : State) (f : Fingers) (allowed left left_after : ℕ) → IsState k s → f ≡ fingers_behind k s → AttemptsOnce f allowed left left_after → TriesOnce k true s (allowed + 1) left left_after
+tries_once k s f allowed left left_after valid is (inl e) = tries_none k true s (allowed + 1) left left_after e
 tries_once k s f allowed left left_after valid is (inr h) =
     let one : Try = record { state = s; attempt = h.attempt } in
     let went : left ≤ left_after + tried_units k one = subst (λ (z : Fingers). left ≤ left_after + attempt_units z h.attempt) is h.many in
     let count : sum_by (tried_units k) (one ∷ []) ≡ tried_units k one + 0 = sum_by-cons (tried_units k) one [] in
     record {
       tries = one ∷ [];
-      tried = all_one (IsTry k) one (record { valid = valid; attempt = subst (λ (z : Fingers). IsAttempt z h.attempt) is h.is });
+      tried = all_one (IsTry k true) one (record { may = refl; valid = valid; attempt = subst (λ (z : Fingers). IsAttempt z h.attempt) is h.is });
       tried_within = λ most here. all_one (IsTryWithin k most) one (subst (λ (l : ℕ). IsStateWithin k most s (l + 1)) (sym h.tried) here);
       few = omega arith;
       many = omega (arith, went, count);
     }
 
+pub tries_may : (k : Kinds) (may_try : Bool) (s : State) (bound left left_after : ℕ) → may_try ≡ true → TriesOnce k true s bound left left_after → TriesOnce k may_try s bound left left_after
+tries_may k may_try s bound left left_after on h = subst (λ (b : Bool). TriesOnce k b s bound left left_after) (sym on) h
+
 -- ---- how it goes on
 
-pub spent_same : (k : Kinds) (n : ℕ) (s : State) (most : ℕ) (known : Known) (left others : ℕ) → IsSpent k n s most known known left left others
-spent_same k n s most known left others =
-    record { grown = λ z valid. omega arith; bounds = []; tries = []; different = pairs_none Differ; each = All-nil (IsRaised k n most known known); tried = All-nil (IsTry k); within = λ m here. All-nil (IsBoundWithin k m); tried_within = λ m here. All-nil (IsTryWithin k m); few = omega arith; many = omega arith }
+pub spent_same : (k : Kinds) (may_try : Bool) (n : ℕ) (s : State) (most : ℕ) (known : Known) (left others : ℕ) → IsSpent k may_try n s most known known left left others
+spent_same k may_try n s most known left others =
+    record { grown = λ z valid. omega arith; bounds = []; tries = []; different = pairs_none Differ; each = All-nil (IsRaised k n most known known); tried = All-nil (IsTry k may_try); within = λ m here. All-nil (IsBoundWithin k m); tried_within = λ m here. All-nil (IsTryWithin k m); few = omega arith; many = omega arith }
 
 -- a unit of the path, and one attempt at most
-pub spent_one : (k : Kinds) (n : ℕ) (s : State) (most : ℕ) (known : Known) (left left_on left_after : ℕ) → left_on + 1 ≡ left → TriesOnce k s most left_on left_after → IsSpent k n s most known known left left_after 1
-spent_one k n s most known left left_on left_after went h =
+pub spent_one : (k : Kinds) (may_try : Bool) (n : ℕ) (s : State) (most : ℕ) (known : Known) (left left_on left_after : ℕ) → left_on + 1 ≡ left → TriesOnce k may_try s most left_on left_after → IsSpent k may_try n s most known known left left_after 1
+spent_one k may_try n s most known left left_on left_after went h =
     record { grown = λ z valid. omega arith; bounds = []; tries = h.tries; different = pairs_none Differ; each = All-nil (IsRaised k n most known known); tried = h.tried; within = λ m here. All-nil (IsBoundWithin k m); tried_within = h.tried_within; few = omega (arith, h.few); many = omega (arith, went, h.many) }
 
 raised_more : (k : Kinds) (n m most more : ℕ) (a b c d : Known) → n ≤ m → most ≤ more → ((s : State) → IsState k s → best_known a k s ≤ best_known b k s) → ((s : State) → IsState k s → best_known c k s ≤ best_known d k s) → (x : Bounded) → IsRaised k n most b c x → IsRaised k m more a d x
 raised_more k n m most more a b c d less up ab cd x h =
     record { is = record { valid = h.is.valid; some = h.is.some; few = omega (arith, h.is.few, up); need = h.is.need }; unknown = omega (arith, ab x.state h.is.valid, h.unknown); known = omega (arith, cd x.state h.is.valid, h.known); below = omega (arith, h.below, less) }
 
-pub spent_more : (k : Kinds) (n m : ℕ) (s t : State) (most more : ℕ) (a b : Known) (left left_after others rest : ℕ) → n ≤ m → most ≤ more → others ≤ rest → ((high : ℕ) → IsStateWithin k high t more → IsStateWithin k high s most) → IsSpent k n s most a b left left_after others → IsSpent k m t more a b left left_after rest
-spent_more k n m s t most more a b left left_after others rest less up few meets h =
+pub spent_more : (k : Kinds) (may_try : Bool) (n m : ℕ) (s t : State) (most more : ℕ) (a b : Known) (left left_after others rest : ℕ) → n ≤ m → most ≤ more → others ≤ rest → ((high : ℕ) → IsStateWithin k high t more → IsStateWithin k high s most) → IsSpent k may_try n s most a b left left_after others → IsSpent k may_try m t more a b left left_after rest
+spent_more k may_try n m s t most more a b left left_after others rest less up few meets h =
     record {
       grown = h.grown;
       bounds = h.bounds;
@@ -85,8 +88,8 @@ apart k n most a b c x y hx hy e =
     let above : best_known b k x.state < x.bound = subst (λ (z : Bounded). best_known b k z.state < z.bound) (sym e) hy.unknown in
     omega (arith, hx.known, above)
 
-pub spent_then : (k : Kinds) (n : ℕ) (s : State) (most : ℕ) (a b c : Known) (left left_on left_after others more : ℕ) → IsSpent k n s most a b left left_on others → IsSpent k n s most b c left_on left_after more → IsSpent k n s most a c left left_after (others + more)
-spent_then k n s most a b c left left_on left_after others more g h =
+pub spent_then : (k : Kinds) (may_try : Bool) (n : ℕ) (s : State) (most : ℕ) (a b c : Known) (left left_on left_after others more : ℕ) → IsSpent k may_try n s most a b left left_on others → IsSpent k may_try n s most b c left_on left_after more → IsSpent k may_try n s most a c left left_after (others + more)
+spent_then k may_try n s most a b c left left_on left_after others more g h =
     let bounds : length (g.bounds ++ h.bounds) ≡ length g.bounds + length h.bounds = length-append g.bounds h.bounds in
     let tries : length (g.tries ++ h.tries) ≡ length g.tries + length h.tries = length-append g.tries h.tries in
     let units : sum_by (tried_units k) (g.tries ++ h.tries) ≡ sum_by (tried_units k) g.tries + sum_by (tried_units k) h.tries = sum_by-append (tried_units k) g.tries h.tries in
@@ -98,7 +101,7 @@ spent_then k n s most a b c left left_on left_after others more g h =
       each = All-append (IsRaised k n most a c) g.bounds h.bounds
           (all_imply (IsRaised k n most a b) (IsRaised k n most a c) g.bounds (raised_more k n n most most a a b c (omega arith) (omega arith) (λ z valid. omega arith) h.grown) g.each)
           (all_imply (IsRaised k n most b c) (IsRaised k n most a c) h.bounds (raised_more k n n most most a b c c (omega arith) (omega arith) g.grown (λ z valid. omega arith)) h.each);
-      tried = All-append (IsTry k) g.tries h.tries g.tried h.tried;
+      tried = All-append (IsTry k may_try) g.tries h.tries g.tried h.tried;
       within = λ m here. All-append (IsBoundWithin k m) g.bounds h.bounds (g.within m here) (h.within m here);
       tried_within = λ m here. All-append (IsTryWithin k m) g.tries h.tries (g.tried_within m here) (h.tried_within m here);
       few = omega (arith, g.few, h.few, bounds, tries);
@@ -117,41 +120,41 @@ state_within_here : (k : Kinds) (s : State) (most : ℕ) (high : ℕ) → IsStat
 state_within_here k s most high h = h
 
 -- the next state has one column less
-pub spent_behind : (k : Kinds) (s after : State) (step : Step) (cost most inner : ℕ) (a b c : Known)
+pub spent_behind : (k : Kinds) (may_try : Bool) (s after : State) (step : Step) (cost most inner : ℕ) (a b c : Known)
     (left left_on left_after : ℕ) → AreSomeKinds k → IsPossible k s step → after ≡ state_after k s step →
-    cost ≡ cost_of s (column_of k step) → inner + cost ≤ most → IsSpent k (columns_left k s) s most a b left left_on 1 →
-    IsSpent k (columns_left k after + 1) after inner b c left_on left_after 0 →
-    IsSpent k (columns_left k s) s most a c left left_after 1
-spent_behind k s after step cost most inner a b c left left_on left_after some possible ea ec up h behind =
+    cost ≡ cost_of s (column_of k step) → inner + cost ≤ most → IsSpent k may_try (columns_left k s) s most a b left left_on 1 →
+    IsSpent k may_try (columns_left k after + 1) after inner b c left_on left_after 0 →
+    IsSpent k may_try (columns_left k s) s most a c left left_after 1
+spent_behind k may_try s after step cost most inner a b c left left_on left_after some possible ea ec up h behind =
     let less : columns_left k s ≡ columns_left k after + 1 = fewer_after k s step some possible ∙ ap (λ (z : State). columns_left k z + 1) (sym ea) in
-    spent_more k (columns_left k s) (columns_left k s) s s most most a c left left_after 1 1 (omega arith) (omega arith)
-    (omega arith) (state_within_here k s most) (spent_then k (columns_left k s) s most a b c left left_on left_after
-    1 0 h (spent_more k (columns_left k after + 1) (columns_left k s) after s inner most b c left_on left_after 0 0
+    spent_more k may_try (columns_left k s) (columns_left k s) s s most most a c left left_after 1 1 (omega arith) (omega arith)
+    (omega arith) (state_within_here k s most) (spent_then k may_try (columns_left k s) s most a b c left left_on left_after
+    1 0 h (spent_more k may_try (columns_left k after + 1) (columns_left k s) after s inner most b c left_on left_after 0 0
     (omega (arith, less)) (omega (arith, up)) (omega arith) (state_within_after k s after step cost most inner some
     possible ea ec up) behind))
 
 -- no node is left behind it
-pub spent_halt : (k : Kinds) (s after : State) (step : Step) (cost most inner : ℕ) (a b c : Known) (why : Halt)
+pub spent_halt : (k : Kinds) (may_try : Bool) (s after : State) (step : Step) (cost most inner : ℕ) (a b c : Known) (why : Halt)
     (left left_on left_after : ℕ) → AreSomeKinds k → IsPossible k s step → after ≡ state_after k s step →
-    cost ≡ cost_of s (column_of k step) → inner + cost ≤ most → IsSpent k (columns_left k s) s most a b left left_on 1 →
-    IfSpent why (IsSpent k (columns_left k after + 1) after inner b c left_on left_after (columns_left k after)) →
-    IfSpent why (IsSpent k (columns_left k s + 1) s most a c left left_after (columns_left k s))
-spent_halt k s after step cost most inner a b c halted.NoMemory left left_on left_after some possible ea ec up h behind = tt
-spent_halt k s after step cost most inner a b c halted.Spent left left_on left_after some possible ea ec up h behind =
+    cost ≡ cost_of s (column_of k step) → inner + cost ≤ most → IsSpent k may_try (columns_left k s) s most a b left left_on 1 →
+    IfSpent why (IsSpent k may_try (columns_left k after + 1) after inner b c left_on left_after (columns_left k after)) →
+    IfSpent why (IsSpent k may_try (columns_left k s + 1) s most a c left left_after (columns_left k s))
+spent_halt k may_try s after step cost most inner a b c halted.NoMemory left left_on left_after some possible ea ec up h behind = tt
+spent_halt k may_try s after step cost most inner a b c halted.Spent left left_on left_after some possible ea ec up h behind =
     let less : columns_left k s ≡ columns_left k after + 1 = fewer_after k s step some possible ∙ ap (λ (z : State). columns_left k z + 1) (sym ea) in
-    spent_more k (columns_left k s) (columns_left k s + 1) s s most most a c left left_after (1 + columns_left k after)
+    spent_more k may_try (columns_left k s) (columns_left k s + 1) s s most most a c left left_after (1 + columns_left k after)
     (columns_left k s) (omega arith) (omega arith) (omega (arith, less)) (state_within_here k s most)
-    (spent_then k (columns_left k s) s most a b c left left_on left_after 1 (columns_left k after) h
-    (spent_more k (columns_left k after + 1) (columns_left k s) after s inner most b c left_on left_after
+    (spent_then k may_try (columns_left k s) s most a b c left left_on left_after 1 (columns_left k after) h
+    (spent_more k may_try (columns_left k after + 1) (columns_left k s) after s inner most b c left_on left_after
     (columns_left k after) (columns_left k after) (omega (arith, less)) (omega (arith, up)) (omega arith)
     (state_within_after k s after step cost most inner some possible ea ec up) behind))
 
 -- nor behind the attempt at the state itself
-pub spent_in : (k : Kinds) (s : State) (most : ℕ) (known : Known) (why : Halt) (left left_on left_after : ℕ) → AreSomeKinds k → HasFingers k s → left_on + 1 ≡ left → IfSpent why (TriesOnce k s most left_on left_after) → IfSpent why (IsSpent k (columns_left k s + 1) s most known known left left_after (columns_left k s))
-spent_in k s most known halted.Spent left left_on left_after kinds some went h =
+pub spent_in : (k : Kinds) (may_try : Bool) (s : State) (most : ℕ) (known : Known) (why : Halt) (left left_on left_after : ℕ) → AreSomeKinds k → HasFingers k s → left_on + 1 ≡ left → IfSpent why (TriesOnce k may_try s most left_on left_after) → IfSpent why (IsSpent k may_try (columns_left k s + 1) s most known known left left_after (columns_left k s))
+spent_in k may_try s most known halted.Spent left left_on left_after kinds some went h =
     let step : (step : Step) × IsPossible k s step = some_step k s some in
-    spent_more k (columns_left k s + 1) (columns_left k s + 1) s s most most known known left left_after 1 (columns_left k s) (omega arith) (omega arith) (omega (arith, fewer_after k s step.0 kinds step.1)) (state_within_here k s most) (spent_one k (columns_left k s + 1) s most known left left_on left_after went h)
-spent_in k s most known halted.NoMemory left left_on left_after kinds some went h = tt
+    spent_more k may_try (columns_left k s + 1) (columns_left k s + 1) s s most most known known left left_after 1 (columns_left k s) (omega arith) (omega arith) (omega (arith, fewer_after k s step.0 kinds step.1)) (state_within_here k s most) (spent_one k may_try (columns_left k s + 1) s most known left left_on left_after went h)
+spent_in k may_try s most known halted.NoMemory left left_on left_after kinds some went h = tt
 
 -- ---- the end
 
@@ -165,8 +168,8 @@ itself : (s : State) (bound best : ℕ) → bound ≤ raised s bound s best
 itself s bound best = subst (λ (b : Bool). bound ≤ cond b (max best bound) best) (sym (same_state_from s s refl)) (omega arith)
 
 -- the bound of the state itself is known at last
-pub spent_bound : (k : Kinds) (s : State) (bound : ℕ) (a b c : Known) (left left_after : ℕ) → IsState k s → Need k s bound → best_known a k s < bound → ((x : State) → IsState k x → best_known c k x ≡ raised s bound x (best_known b k x)) → IsSpent k (columns_left k s) s bound a b left left_after 1 → IsSpent k (columns_left k s + 1) s bound a c left left_after 0
-spent_bound k s bound a b c left left_after valid need unknown noted h =
+pub spent_bound : (k : Kinds) (may_try : Bool) (s : State) (bound : ℕ) (a b c : Known) (left left_after : ℕ) → IsState k s → Need k s bound → best_known a k s < bound → ((x : State) → IsState k x → best_known c k x ≡ raised s bound x (best_known b k x)) → IsSpent k may_try (columns_left k s) s bound a b left left_after 1 → IsSpent k may_try (columns_left k s + 1) s bound a c left left_after 0
+spent_bound k may_try s bound a b c left left_after valid need unknown noted h =
     let one : Bounded = record { state = s; bound = bound } in
     let up : (x : State) → IsState k x → best_known b k x ≤ best_known c k x = λ x v. subst (λ (m : ℕ). best_known b k x ≤ m) (sym (noted x v)) (never_less s x bound (best_known b k x)) in
     let told : bound ≤ best_known c k s = subst (λ (m : ℕ). bound ≤ m) (sym (noted s valid)) (itself s bound (best_known b k s)) in
@@ -191,8 +194,8 @@ state_within_start : (k : Kinds) (s : State) (most : ℕ) → AreSomeKinds k →
 state_within_start k s most kinds e = record { gaps = 0; reached = subst (λ (z : State). IsReached k z 0) (sym e) (reached_start k (gates_are_nets k kinds)); within = omega arith }
 
 -- all in all
-pub searched : (k : Kinds) (s : State) (a b : Known) (n most left left_after others : ℕ) → AreSomeKinds k → s ≡ start_of k → others ≡ columns_left k s → IsSpent k n s most a b left left_after others → AreSearched k most (left - left_after) (columns_left k (start_of k))
-searched k s a b n most left left_after others kinds e same h =
+pub searched : (k : Kinds) (may_try : Bool) (s : State) (a b : Known) (n most left left_after others : ℕ) → AreSomeKinds k → s ≡ start_of k → others ≡ columns_left k s → IsSpent k may_try n s most a b left left_after others → AreSearched k may_try most (left - left_after) (columns_left k (start_of k))
+searched k may_try s a b n most left left_after others kinds e same h =
     let there : columns_left k s ≡ columns_left k (start_of k) = ap (columns_left k) e in
     record {
       bounds = h.bounds;
@@ -206,6 +209,6 @@ searched k s a b n most left left_after others kinds e same h =
       many = omega (arith, h.many, same, there);
     }
 
-pub searched_less : (k : Kinds) (most units fewer others same : ℕ) → fewer ≤ units → others ≡ same → AreSearched k most units others → AreSearched k most fewer same
-searched_less k most units fewer others same less e h =
+pub searched_less : (k : Kinds) (may_try : Bool) (most units fewer others same : ℕ) → fewer ≤ units → others ≡ same → AreSearched k may_try most units others → AreSearched k may_try most fewer same
+searched_less k may_try most units fewer others same less e h =
     record { bounds = h.bounds; tries = h.tries; different = h.different; each = h.each; tried = h.tried; within = h.within; tried_within = h.tried_within; few = omega (arith, h.few, e); many = omega (arith, h.many, less, e) }

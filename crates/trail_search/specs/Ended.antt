@@ -1,5 +1,5 @@
 -- How a search ended: with the first least row and its certificate, or with what is proved without a row.
-use Rattle.std.specs.Prelude.{ℕ, ◌≡◌, ◌≤◌, ◌+◌, ◌-◌, ◌⊎◌, List, [], Some, None, IsNone, slice_get}
+use Rattle.std.specs.Prelude.{ℕ, ◌≡◌, ◌≤◌, ◌+◌, ◌-◌, ◌==◌, ◌⊎◌, List, [], Some, None, IsNone, length, slice_get}
 use Rattle.cell_num.specs.declared.net.NetNo.{NetNo}
 use Rattle.cell_num.specs.declared.finger.Fingers.{Fingers}
 use Rattle.cell_num.specs.Fingers.{columns_of}
@@ -48,10 +48,11 @@ abbrev pub WentForLemmas : Fingers → ℕ → TrailCertificate → Type 0
 WentForLemmas f budget trails = budget ≤ lemma_units f trails + gate_units f trails
 
 -- What is proved is the fewest gaps of all arrangements, where no gate is left open. The units for rows, except one of
--- each column, went for bounds of states, and for attempts to refute states by trails.
+-- each column, went for bounds of states, and where no gate is left open for attempts to refute states by trails.
 pub record WentForRows (f : Fingers) (budget : ℕ) (trails : TrailCertificate) (proved : ℕ) : Type 0 where
   pub fewest : (open_of f trails).gates ≡ [] → AreFewestGaps f proved
-  pub searched : WithKinds f (λ k. AreSearched k (proved + 1) (row_units f budget trails) (columns_of f))
+  pub searched : WithKinds f (λ k.
+      AreSearched k (length (opened_gates f trails.order) == 0) (proved + 1) (row_units f budget trails) (columns_of f))
 
 -- The budget is spent. The certificate lists no row. Its gates are as a checker asks, and all its lemmas are justified:
 -- they prove that no arrangement has fewer gaps. No lemma is said by an earlier one, and each is on a state that is

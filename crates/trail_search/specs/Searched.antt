@@ -1,5 +1,5 @@
 -- What the units of a search for a row went for: bounds of states, and attempts by trails to refute states.
-use Rattle.std.specs.Prelude.{ℕ, ◌≤◌, ◌<◌, ◌+◌, ◌≢◌, List, All, AllPairs, length, sum_by}
+use Rattle.std.specs.Prelude.{ℕ, ◌≤◌, ◌<◌, ◌+◌, ◌≢◌, Bool, IsTrue, List, All, AllPairs, length, sum_by}
 use Rattle.row_state.specs.declared.kind.Kinds.{Kinds}
 use Rattle.row_state.specs.declared.state.State.{State}
 use Rattle.row_state.specs.Completion.{Need}
@@ -35,8 +35,9 @@ pub record Try : Type 0 where
 abbrev pub IsBoundWithin : Kinds → ℕ → Bounded → Type 0
 IsBoundWithin k most b = IsStateWithin k most b.state b.bound
 
--- its lemmas are of the fingers of the state
-pub record IsTry (k : Kinds) (t : Try) : Type 0 where
+-- attempts may be made; the lemmas of this one are of the fingers of the state
+pub record IsTry (k : Kinds) (may_try : Bool) (t : Try) : Type 0 where
+  pub may : IsTrue may_try
   pub valid : IsState k t.state
   pub attempt : IsAttempt (fingers_behind k t.state) t.attempt
 
@@ -48,13 +49,13 @@ abbrev pub tried_units : Kinds → Try → ℕ
 tried_units k t = attempt_units (fingers_behind k t.state) t.attempt
 
 -- The units went for bounds of states that rows reach, no two of them alike, and that many others; and for one attempt
--- each at most.
-pub record AreSearched (k : Kinds) (most units others : ℕ) : Type 0 where
+-- each at most, where attempts may be made.
+pub record AreSearched (k : Kinds) (may_try : Bool) (most units others : ℕ) : Type 0 where
   pub bounds : List Bounded
   pub tries : List Try
   pub different : AllPairs (λ (a b : Bounded). a ≢ b) bounds
   pub each : All (IsBounded k most) bounds
-  pub tried : All (IsTry k) tries
+  pub tried : All (IsTry k may_try) tries
   pub within : All (IsBoundWithin k most) bounds
   pub tried_within : All (IsTryWithin k most) tries
   pub few : length tries ≤ length bounds + others

@@ -1,5 +1,5 @@
 -- What one visit of a state promises.
-use Rattle.std.specs.Prelude.{ℕ, ◌≡◌, ◌≢◌, ◌≤◌, ◌<◌, ◌+◌, List, All, AllPairs, length, sum_by}
+use Rattle.std.specs.Prelude.{ℕ, ◌≡◌, ◌≢◌, ◌≤◌, ◌<◌, ◌+◌, Bool, List, All, AllPairs, length, sum_by}
 use Rattle.row_state.specs.declared.kind.Kinds.{Kinds}
 use Rattle.row_state.specs.declared.state.State.{State}
 use Rattle.row_state.specs.declared.step.Step.{Step}
@@ -37,9 +37,9 @@ abbrev pub BoundsWithin : Kinds → State → ℕ → List Bounded → Type 0
 BoundsWithin k s bound bounds = (most : ℕ) → IsStateWithin k most s bound → All (IsBoundWithin k most) bounds
 
 -- one attempt at most took the units
-pub record TriesOnce (k : Kinds) (s : State) (bound left left_after : ℕ) : Type 0 where
+pub record TriesOnce (k : Kinds) (may_try : Bool) (s : State) (bound left left_after : ℕ) : Type 0 where
   pub tries : List Try
-  pub tried : All (IsTry k) tries
+  pub tried : All (IsTry k may_try) tries
   pub tried_within : TriesWithin k s bound tries
   pub few : length tries ≤ 1
   pub many : left ≤ left_after + sum_by (tried_units k) tries
@@ -52,14 +52,14 @@ pub record IsRaised (k : Kinds) (n most : ℕ) (before after : Known) (b : Bound
   pub below : columns_left k b.state < n
 
 -- The units went for bounds that came to be known, for so many others, and for one attempt each at most.
-pub record IsSpent
-    (k : Kinds) (n : ℕ) (s : State) (most : ℕ) (before after : Known) (left left_after others : ℕ) : Type 0 where
+pub record IsSpent (k : Kinds) (may_try : Bool) (n : ℕ) (s : State) (most : ℕ) (before after : Known)
+    (left left_after others : ℕ) : Type 0 where
   pub grown : (s : State) → IsState k s → best_known before k s ≤ best_known after k s
   pub bounds : List Bounded
   pub tries : List Try
   pub different : AllPairs (λ (a b : Bounded). a ≢ b) bounds
   pub each : All (IsRaised k n most before after) bounds
-  pub tried : All (IsTry k) tries
+  pub tried : All (IsTry k may_try) tries
   pub within : BoundsWithin k s most bounds
   pub tried_within : TriesWithin k s most tries
   pub few : length tries ≤ length bounds + others

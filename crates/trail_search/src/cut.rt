@@ -1,4 +1,4 @@
-ghost use Rattle.std.specs.Prelude.{◌≡◌, ◌≤◌, ◌<◌, ◌+◌, ◌||◌, IfErr, IfOk, IsTrue, is_some};
+ghost use Rattle.std.specs.Prelude.{◌≡◌, ◌≤◌, ◌<◌, ◌+◌, ◌||◌, IfErr, IfOk, IsTrue, true, is_some};
 ghost use Rattle.row_state.specs.Completion.{Need};
 ghost use Rattle.row_state.specs.Start.{IsState};
 ghost use Rattle.trail_search.specs.Lists.{AreRight};
@@ -43,9 +43,9 @@ fn trails_refute(
     ensures refuted { IfOk result (λ yes. IsTrue yes → Need kinds.now state.now (allowed + 1)) }
     ensures left { left.new ≤ left.old }
     ensures halted { IfErr result (Halts left.new) }
-    ensures tries { IfOk result (λ _. TriesOnce kinds.now state.now (allowed + 1) left.old left.new) }
+    ensures tries { IfOk result (λ _. TriesOnce kinds.now true state.now (allowed + 1) left.old left.new) }
     ensures spent_tries { IfErr result (λ why. IfSpent why
-        (TriesOnce kinds.now state.now (allowed + 1) left.old left.new)) }
+        (TriesOnce kinds.now true state.now (allowed + 1) left.old left.new)) }
 {
     kinds.show_limits();
     if !is_open(state) {
@@ -65,7 +65,7 @@ fn trails_refute(
 
 /// Whether it is proved that every completion of the state has more further gaps than are allowed: by bounds on both
 /// rows, and where `tries` by trails.
-#[tactic(auto, using(crate::proofs::Spent::tries_none))]
+#[tactic(auto, using(crate::proofs::Spent::tries_none, crate::proofs::Spent::tries_may))]
 pub(crate) fn exceeds_allowed(
     alloc: Global,
     tries: bool,
@@ -81,9 +81,9 @@ pub(crate) fn exceeds_allowed(
     ensures exceeds { IfOk result (λ yes. IsTrue yes → Need kinds.now state.now (allowed + 1)) }
     ensures left { left.new ≤ left.old }
     ensures halted { IfErr result (Halts left.new) }
-    ensures tries { IfOk result (λ _. TriesOnce kinds.now state.now (allowed + 1) left.old left.new) }
+    ensures tries { IfOk result (λ _. TriesOnce kinds.now tries state.now (allowed + 1) left.old left.new) }
     ensures spent_tries { IfErr result (λ why. IfSpent why
-        (TriesOnce kinds.now state.now (allowed + 1) left.old left.new)) }
+        (TriesOnce kinds.now tries state.now (allowed + 1) left.old left.new)) }
 {
     if is_above(Row::P, state, kinds, allowed) || is_above(Row::N, state, kinds, allowed) {
         return Ok(true);

@@ -46,10 +46,10 @@ pub(crate) fn visit(
     ensures failed { IfOk result (λ r. IfNone r (Need task.now.kinds.now at.now.state (allowed + 1))) }
     ensures found { IfOk result (λ r. IfSome r (IsFirstOf task.now.kinds.now at.now.state allowed)) }
     ensures halted { IfErr result (Halts left.new) }
-    ensures bounds { IfOk result (λ r. IfNone r (IsSpent task.now.kinds.now
+    ensures bounds { IfOk result (λ r. IfNone r (IsSpent task.now.kinds.now task.now.tries
         (columns_left task.now.kinds.now at.now.state + 1) at.now.state (allowed + 1) known.old known.new left.old
         left.new 0)) }
-    ensures spent { IfErr result (λ why. IfSpent why (IsSpent task.now.kinds.now
+    ensures spent { IfErr result (λ why. IfSpent why (IsSpent task.now.kinds.now task.now.tries
         (columns_left task.now.kinds.now at.now.state + 1) at.now.state (allowed + 1) known.old known.new left.old
         left.new (columns_left task.now.kinds.now at.now.state))) }
 {

@@ -52,8 +52,8 @@ fn row_from(
     ensures none { IfOk result (λ r. IfNone r (Need kinds.now (start_of kinds.now) (gaps + 1))) }
     ensures left { left.new ≤ left.old }
     ensures halted { IfErr result (Halts left.new) }
-    ensures spent { IfErr result (λ why. IfSpent why (AreSearched kinds.now (gaps + 1) (left.old - left.new)
-        (columns_left kinds.now (start_of kinds.now)))) }
+    ensures spent { IfErr result (λ why. IfSpent why (AreSearched kinds.now tries (gaps + 1)
+        (left.old - left.new) (columns_left kinds.now (start_of kinds.now)))) }
 {
     kinds.show_limits();
     let candidates = candidates(alloc, kinds)?;
@@ -88,8 +88,8 @@ pub fn first_row(
     ensures none { IfOk result (λ r. IfNone r (Need kinds.now (start_of kinds.now) (gaps + 1))) }
     ensures left { left.new ≤ left.old }
     ensures halted { IfErr result (Halts left.new) }
-    ensures spent { IfErr result (λ why. IfSpent why (AreSearched kinds.now (gaps + 1) (left.old - left.new)
-        (columns_left kinds.now (start_of kinds.now)))) }
+    ensures spent { IfErr result (λ why. IfSpent why (AreSearched kinds.now tries (gaps + 1)
+        (left.old - left.new) (columns_left kinds.now (start_of kinds.now)))) }
 {
     let first = Numbered::new(start(alloc, kinds)?, kinds);
     let row = row_from(alloc, kinds, gaps, tries, left, &first);

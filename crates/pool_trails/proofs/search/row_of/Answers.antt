@@ -9,24 +9,25 @@ use Rattle.pool_trails.proofs.search.row_of.Goals as goal
 
 pub returns-then-is_spent-clause-stopped : goal.returns-then-is_spent-clause-stopped
 returns-then-is_spent-clause-stopped c =
-    lemmas_spent c.args.fingers.now c.args.gates.now c.args.kinds.now c.args.budget c.args.proof.now c.args.pools
-    c.requires.fingers
-    c.requires.proof c.gaps_proved-proved.result c.gaps_proved-proved.ensures (c.is_spent.ensures.0 c.if-is_spent.true)
+    lemmas_spent c.args.fingers.now c.args.gates.now c.args.kinds.now c.args.budget c.args.proof.now c.args.certificate
+    c.requires.fingers c.requires.kinds c.requires.sound c.requires.out c.requires.proof
+    c.gaps_proved-proved.result c.gaps_proved-proved.ensures (c.is_spent.ensures.0 c.if-is_spent.true)
 
 pub row_within-requires : goal.row_within-requires
 row_within-requires c = record {
-  few = few_proved c.args.fingers.now c.args.gates.now c.args.kinds.now c.args.budget c.args.proof.now c.args.pools
-      c.requires.fingers
-      c.requires.proof c.gaps_proved-proved.result c.gaps_proved-proved.ensures;
+  few = few_proved c.args.fingers.now c.args.gates.now c.args.kinds.now c.args.budget c.args.proof.now
+      c.args.certificate
+      c.requires.fingers c.requires.kinds c.requires.sound c.requires.out c.requires.proof
+      c.gaps_proved-proved.result c.gaps_proved-proved.ensures;
 }
 
 pub returns-in-Ok-Some-clause-found : goal.returns-in-Ok-Some-clause-found
 returns-in-Ok-Some-clause-found c =
     let first : IsFirstRow c.args.kinds.now c.gaps_proved-proved.result c.in-Ok-Some.first =
     rw c.in-Ok-Some.field-0-is at c.in-Ok-Some.ensures.found in
-    found_is c.args.fingers.now c.args.gates.now c.args.kinds.now c.args.budget c.args.proof.now c.args.pools
-    c.requires.fingers
-    c.requires.proof c.gaps_proved-proved.result c.gaps_proved-proved.ensures c.in-Ok-Some.first c.with_row.result first
+    found_is c.args.fingers.now c.args.gates.now c.args.kinds.now c.args.budget c.args.proof.now c.args.certificate
+    c.requires.fingers c.requires.kinds c.requires.sound c.requires.out c.requires.proof
+    c.gaps_proved-proved.result c.gaps_proved-proved.ensures c.in-Ok-Some.first c.with_row.result first
     c.with_row.ensures
 
 pub returns-in-Ok-None-clause-stopped : goal.returns-in-Ok-None-clause-stopped
@@ -36,13 +37,16 @@ returns-in-Ok-None-clause-stopped c =
     let off : c.is_spent.result ≡ false = c.if-is_spent.false in
     let whole : c.args.proof.now.end ≡ ended.Spent → ⊥ =
     λ spent. let yes : c.is_spent.result ≡ true = c.is_spent.ensures.1 spent in cc in
-    inr (inl (in_vain c.args.fingers.now c.args.gates.now c.args.kinds.now c.args.budget c.args.proof.now c.args.pools
-    c.requires.fingers c.requires.proof c.gaps_proved-proved.result c.gaps_proved-proved.ensures whole need))
+    inr (inl (in_vain c.args.fingers.now c.args.gates.now c.args.kinds.now c.args.budget c.args.proof.now
+    c.args.certificate
+    c.requires.fingers c.requires.kinds c.requires.sound c.requires.out c.requires.proof
+    c.gaps_proved-proved.result c.gaps_proved-proved.ensures whole need))
 
 pub returns-in-Err-Spent-clause-stopped : goal.returns-in-Err-Spent-clause-stopped
 returns-in-Err-Spent-clause-stopped c =
     let went : WentForRow c.args.kinds.now (c.gaps_proved-proved.result + 1) c.args.gates.now.uncrowded
     c.args.proof.now.left (columns_left c.args.kinds.now (start_of c.args.kinds.now)) =
     rw c.in-Err-Spent.field-0-is at c.in-Err-Spent.ensures.spent in
-    row_spent c.args.fingers.now c.args.gates.now c.args.kinds.now c.args.budget c.args.proof.now c.args.pools
-    c.requires.fingers c.requires.proof c.gaps_proved-proved.result c.gaps_proved-proved.ensures went
+    row_spent c.args.fingers.now c.args.gates.now c.args.kinds.now c.args.budget c.args.proof.now c.args.certificate
+    c.requires.fingers c.requires.kinds c.requires.sound c.requires.out c.requires.proof
+    c.gaps_proved-proved.result c.gaps_proved-proved.ensures went

@@ -8,4 +8,4 @@ returns-in-Filled-clause-reads c =
 
 pub returns-in-Pools-clause-reads : goal.returns-in-Pools-clause-reads
 returns-in-Pools-clause-reads c =
-    rw c.in-Pools.is (written_again c.write_pools.result (λ v. v.items) c.args.name.now (Pools c.in-Pools.pools) c.requires.name c.write_pools.ensures.text)
+    rw c.in-Pools.is (written_again c.write_fewer.result (λ v. v.items) c.args.name.now (Pools c.in-Pools.certificate) c.requires.name c.write_fewer.ensures.text)

@@ -81,7 +81,7 @@ pub loop-next-preserved : goal.loop-next-preserved
 unfolding blank
 loop-next-preserved t c =
     let failed : Need c.args.task.now.kinds.now c.in_ok-behind.behind.state (c.args.allowed - c.cost-cost.result + 1) = rw c.in_default.is at c.in-Ok.ensures.failed in
-    let went : IsSpent c.args.task.now.kinds.now (columns_left c.args.task.now.kinds.now c.in_ok-behind.behind.state + 1) c.in_ok-behind.behind.state (c.args.allowed - c.cost-cost.result + 1) c.loop-next.known c.visit.new.known c.loop-next.left c.visit.new.left 0 = rw c.in_default.is at c.in-Ok.ensures.bounds in (
+    let went : IsSpent c.args.task.now.kinds.now c.args.task.now.tries (columns_left c.args.task.now.kinds.now c.in_ok-behind.behind.state + 1) c.in_ok-behind.behind.state (c.args.allowed - c.cost-cost.result + 1) c.loop-next.known c.visit.new.known c.loop-next.left c.visit.new.left 0 = rw c.in_default.is at c.in-Ok.ensures.bounds in (
       c.in-Ok.ensures.known,
       omega (arith, c.in-Ok.ensures.left, c.loop-next.invariant.1),
       none_behind c.args.task.now.kinds.now c.args.at.now.state c.in_ok-behind.behind.state c.args.allowed
@@ -89,7 +89,7 @@ loop-next-preserved t c =
           c.loop-next-test.true (c.cost-cost.ensures c.args.task.now.kinds.now
           (c.requires.candidates.each c.loop-next.next-index blank c.loop-next-test.true)) c.in_ok-behind.ensures.state
           failed,
-      spent_behind c.args.task.now.kinds.now c.args.at.now.state c.in_ok-behind.behind.state
+      spent_behind c.args.task.now.kinds.now c.args.task.now.tries c.args.at.now.state c.in_ok-behind.behind.state
           (get_or c.args.task.now.candidates.now c.loop-next.next-index blank).step c.cost-cost.result
           (c.args.allowed + 1) (c.args.allowed - c.cost-cost.result + 1) c.args.known.now c.loop-next.known
           c.visit.new.known c.args.left.now c.loop-next.left c.visit.new.left c.show_limits.ensures
@@ -111,14 +111,14 @@ pub returns-clause-failed : goal.returns-clause-failed
 returns-clause-failed t c = none_left c.args.task.now.kinds.now c.args.at.now.state c.args.allowed c.loop-next.next-index c.args.task.now.candidates.now c.args.task.now.candidates.now c.requires.candidates c.requires.numbered.valid (some_left (c.has_fingers.ensures c.args.task.now.kinds.now c.requires.numbered.valid) c.if-not-has_fingers.false) refl c.loop-next-test.false c.loop-next.invariant.2
 
 pub returns-then-left-eq0-clause-spent : goal.returns-then-left-eq0-clause-spent
-returns-then-left-eq0-clause-spent t c = spent_same c.args.task.now.kinds.now (columns_left c.args.task.now.kinds.now c.args.at.now.state + 1) c.args.at.now.state (c.args.allowed + 1) c.args.known.now c.args.left.now (columns_left c.args.task.now.kinds.now c.args.at.now.state)
+returns-then-left-eq0-clause-spent t c = spent_same c.args.task.now.kinds.now c.args.task.now.tries (columns_left c.args.task.now.kinds.now c.args.at.now.state + 1) c.args.at.now.state (c.args.allowed + 1) c.args.known.now c.args.left.now (columns_left c.args.task.now.kinds.now c.args.at.now.state)
 
 pub returns-in_err-exceeds_allowed-clause-spent : goal.returns-in_err-exceeds_allowed-clause-spent
 returns-in_err-exceeds_allowed-clause-spent t c =
-    let told : IfSpent c.in_err-exceeds_allowed.field-0.0 (IsSpent c.args.task.now.kinds.now
+    let told : IfSpent c.in_err-exceeds_allowed.field-0.0 (IsSpent c.args.task.now.kinds.now c.args.task.now.tries
     (columns_left c.args.task.now.kinds.now c.args.at.now.state + 1) c.args.at.now.state (c.args.allowed + 1)
     c.args.known.now c.args.known.now c.args.left.now c.exceeds_allowed.new.left
-    (columns_left c.args.task.now.kinds.now c.args.at.now.state)) = spent_in c.args.task.now.kinds.now
+    (columns_left c.args.task.now.kinds.now c.args.at.now.state)) = spent_in c.args.task.now.kinds.now c.args.task.now.tries
     c.args.at.now.state (c.args.allowed + 1) c.args.known.now c.in_err-exceeds_allowed.field-0.0 c.args.left.now
     (c.args.left.now - 1) c.exceeds_allowed.new.left c.show_limits.ensures
     (some_left (c.has_fingers.ensures c.args.task.now.kinds.now c.requires.numbered.valid)
@@ -126,11 +126,11 @@ returns-in_err-exceeds_allowed-clause-spent t c =
     search rules
 
 pub returns-then-branch-clause-bounds : goal.returns-then-branch-clause-bounds
-returns-then-branch-clause-bounds t c = spent_bound c.args.task.now.kinds.now c.args.at.now.state (c.args.allowed + 1)
+returns-then-branch-clause-bounds t c = spent_bound c.args.task.now.kinds.now c.args.task.now.tries c.args.at.now.state (c.args.allowed + 1)
     c.args.known.now c.args.known.now c.note_at.new.self c.args.left.now c.exceeds_allowed.new.left
     c.requires.numbered.valid (c.in_ok-exceeds_allowed.ensures.exceeds c.if-branch.true)
     (omega (arith, c.requires.unknown)) (c.in_ok-note_at.ensures.raised c.args.task.now.kinds.now c.args.at.now.state
-    c.requires.numbered.valid (sym c.requires.numbered.code)) (spent_one c.args.task.now.kinds.now
+    c.requires.numbered.valid (sym c.requires.numbered.code)) (spent_one c.args.task.now.kinds.now c.args.task.now.tries
     (columns_left c.args.task.now.kinds.now c.args.at.now.state) c.args.at.now.state (c.args.allowed + 1)
     c.args.known.now c.args.left.now (c.args.left.now - 1) c.exceeds_allowed.new.left
     (omega (arith, c.if-left-eq0.false)) c.in_ok-exceeds_allowed.ensures.tries)
@@ -140,7 +140,7 @@ loop-next-init t c = (
   c.requires.known,
   omega (arith, c.in_ok-exceeds_allowed.ensures.left),
   All-nil (HasNone c.args.task.now.kinds.now c.args.at.now.state c.args.allowed),
-  spent_one c.args.task.now.kinds.now (columns_left c.args.task.now.kinds.now c.args.at.now.state) c.args.at.now.state
+  spent_one c.args.task.now.kinds.now c.args.task.now.tries (columns_left c.args.task.now.kinds.now c.args.at.now.state) c.args.at.now.state
       (c.args.allowed + 1) c.args.known.now c.args.left.now (c.args.left.now - 1) c.exceeds_allowed.new.left
       (omega (arith, c.if-left-eq0.false)) c.in_ok-exceeds_allowed.ensures.tries,
   c.in_ok-exceeds_allowed.ensures.right,
@@ -148,7 +148,7 @@ loop-next-init t c = (
 
 pub returns-in-Err-clause-spent : goal.returns-in-Err-clause-spent
 unfolding blank
-returns-in-Err-clause-spent t c = spent_halt c.args.task.now.kinds.now c.args.at.now.state c.in_ok-behind.behind.state
+returns-in-Err-clause-spent t c = spent_halt c.args.task.now.kinds.now c.args.task.now.tries c.args.at.now.state c.in_ok-behind.behind.state
     (get_or c.args.task.now.candidates.now c.loop-next.next-index blank).step c.cost-cost.result (c.args.allowed + 1)
     (c.args.allowed - c.cost-cost.result + 1) c.args.known.now c.loop-next.known c.visit.new.known c.in-Err.halt
     c.args.left.now c.loop-next.left c.visit.new.left c.show_limits.ensures
@@ -157,7 +157,7 @@ returns-in-Err-clause-spent t c = spent_halt c.args.task.now.kinds.now c.args.at
     c.loop-next-test.true)) (omega (arith, c.if-allowed-cost.false)) c.loop-next.invariant.3 c.in-Err.ensures.spent
 
 pub returns-clause-bounds : goal.returns-clause-bounds
-returns-clause-bounds t c = spent_bound c.args.task.now.kinds.now c.args.at.now.state (c.args.allowed + 1)
+returns-clause-bounds t c = spent_bound c.args.task.now.kinds.now c.args.task.now.tries c.args.at.now.state (c.args.allowed + 1)
     c.args.known.now c.loop-next.known c.note_at-2.new.self c.args.left.now c.loop-next.left c.requires.numbered.valid
     (none_left c.args.task.now.kinds.now c.args.at.now.state c.args.allowed c.loop-next.next-index
     c.args.task.now.candidates.now c.args.task.now.candidates.now c.requires.candidates c.requires.numbered.valid

@@ -1,0 +1,107 @@
+-- Fingers may be left out, and a text can hold which.
+use Rattle.std.specs.Prelude.{ℕ, ◌≡◌, ◌≤◌, ◌<◌, ◌==◌, ◌≢◌, not, Bool, true, false, List, [], ◌∷◌, None, Some}
+use Rattle.std.specs.Prelude.{All, AllPairs, IfSome, if◌then◌else◌, length}
+use Rattle.std.proofs.Common.{refl, sym, ap, subst, arith, get_or}
+use Rattle.std.proofs.lemmas.Bool.{and_from, and_parts, eqb-false, lt-ltb}
+use Rattle.std.proofs.lemmas.List.Elements.{All-contains, All-filter}
+use Rattle.std.proofs.lemmas.List.FromFn.{get_or-map-range_with_len, length-map-range_with_len}
+use Rattle.std.proofs.lemmas.List.Kept.{AllPairs-filter}
+use Rattle.cell_num.proofs.Lists.{all_from_contains, contains_here}
+use Rattle.cell_num.proofs.Pairs.{pairs_head, pairs_tail}
+use Rattle.cell_num.specs.declared.finger.Fingers.{Fingers}
+use Rattle.cell_num.specs.declared.finger.Row.{Row}
+use Rattle.cell_num.specs.declared.net.NetNo.{NetNo}
+use Rattle.row_state.specs.declared.kind.Kinds.{Kinds}
+use Rattle.row_state.specs.Start.{AreKinds}
+use Rattle.trail_log.specs.Fits.{NetFits}
+use Rattle.trail_log.specs.Order.{increases, net_rank}
+use Rattle.trail_state.proofs.Members.{passes_from}
+use Rattle.open_gates.specs.Open.{has_more}
+use Rattle.fewer_fingers.specs.declared.fewer.LeftOut.{LeftOut}
+use Rattle.fewer_fingers.specs.Fewer.{MayLeave, MayLeaveOut}
+use Rattle.fewer_fingers.proofs.Decided.{not_decides}
+use Rattle.fewer_log.specs.Fits.{OutFits}
+use Rattle.pool_check.specs.Accepted.{has_many_ways}
+use Rattle.pool_trails.specs.declared.opening.Opening.{Opening}
+use Rattle.pool_trails.specs.declared.opening.Opening.TheVariants.{Crowded, Longer, Without}
+use Rattle.pool_trails.specs.Opening.{all_nets, gates_left_out, is_left_out, open_with_more, other_row, out_of}
+
+abbrev net_of : ℕ → NetNo
+net_of n = record { 0 = n }
+
+-- ---- each net before the next
+
+nets_increase : (gates : List NetNo) → AllPairs (λ (a b : NetNo). a.0 < b.0) gates → increases net_rank gates ≡ true
+nets_increase [] h = refl
+nets_increase (x ∷ []) h = refl
+nets_increase (x ∷ y ∷ ys) h =
+    let all : All (λ (b : NetNo). x.0 < b.0) (y ∷ ys) = pairs_head (λ (a b : NetNo). a.0 < b.0) x (y ∷ ys) h in
+    let first : x.0 < y.0 = All-contains (λ (b : NetNo). x.0 < b.0) (y ∷ ys) y all (contains_here y ys) in
+    and_from _ _ (lt-ltb x.0 y.0 first)
+    (nets_increase (y ∷ ys) (pairs_tail (λ (a b : NetNo). a.0 < b.0) x (y ∷ ys) h))
+
+module _ (f : Fingers) where
+  net_at : (i : ℕ) (d : NetNo) → i < f.nets → (get_or (all_nets f) i d).0 ≡ i
+  net_at i d low = ap (λ (g : NetNo). g.0) (get_or-map-range_with_len net_of 0 f.nets i i d low (omega arith))
+
+  long : length (all_nets f) ≡ f.nets
+  long = length-map-range_with_len net_of 0 f.nets
+
+  nets_fit : All (NetFits f.nets) (all_nets f)
+  nets_fit i d short =
+      let low : i < f.nets = omega (arith, short, long) in
+      omega (arith, low, net_at i d low)
+
+  nets_ascend : AllPairs (λ (a b : NetNo). a.0 < b.0) (all_nets f)
+  nets_ascend i j d less short =
+      let low : j < f.nets = omega (arith, short, long) in
+      omega (arith, less, net_at i d (omega (arith, less, low)), net_at j d low)
+
+-- ---- the gates
+
+module _ (row : Row) (f : Fingers) where
+  abbrev gates : List NetNo
+  gates = gates_left_out row f
+
+  abbrev out : LeftOut
+  out = record { row = row; gates = gates }
+
+  no_more : (gate : NetNo) → is_left_out row f gate ≡ true → has_more row f gate ≡ false
+  no_more gate h = (not_decides (has_more row f gate)).0
+      (and_parts (not (has_more row f gate)) (has_many_ways f (open_with_more (other_row row) f) gate) h).0
+
+  may_leave_out : MayLeaveOut out f
+  may_leave_out = all_from_contains (λ (g : NetNo). has_more row f g ≡ false) gates
+      (λ gate there. no_more gate (passes_from (is_left_out row f) (all_nets f) gate there).passes)
+
+  out_fits : (length gates == 0) ≡ false → OutFits f.nets out
+  out_fits off = record {
+    some = let more : length gates ≢ 0 = eqb-false (length gates) 0 off in omega (arith, more);
+    gates = All-filter (is_left_out row f) (NetFits f.nets) (all_nets f) (nets_fit f);
+    increase = nets_increase gates
+        (AllPairs-filter (λ (a b : NetNo). a.0 < b.0) (is_left_out row f) (all_nets f) (nets_ascend f));
+  }
+
+  may_leave_if : (b : Bool) → MayLeave (if b then None else Some out) f
+  may_leave_if true = tt
+  may_leave_if false = may_leave_out
+
+  fits_if : (b : Bool) → (length gates == 0) ≡ b → IfSome (if b then None else Some out) (OutFits f.nets)
+  fits_if true e = tt
+  fits_if false e = out_fits e
+
+pub may_leave : (opening : Opening) (f : Fingers) → MayLeave (out_of opening f) f
+may_leave Longer f = tt
+may_leave Crowded f = tt
+may_leave (Without row) f = may_leave_if row f (length (gates_left_out row f) == 0)
+
+fits_nets : (opening : Opening) (f : Fingers) → IfSome (out_of opening f) (OutFits f.nets)
+fits_nets Longer f = tt
+fits_nets Crowded f = tt
+fits_nets (Without row) f = fits_if row f (length (gates_left_out row f) == 0) refl
+
+-- what is left out is in range for the kinds of the fingers
+pub out_fits_kinds : (opening : Opening) (f : Fingers) (k : Kinds) → AreKinds f k
+    → IfSome (out_of opening f) (OutFits k.nets)
+out_fits_kinds opening f k of_f =
+    subst (λ (n : ℕ). IfSome (out_of opening f) (OutFits n)) (sym of_f.nets) (fits_nets opening f)
