@@ -1,7 +1,8 @@
-"""What a check says of certificates by trails of version 2, as docs/FORMATS.md has it. It shares no code with the program."""
+"""What a check says of certificates by trails of versions 2 and 3, as docs/FORMATS.md has it. It shares no code with the program."""
 from collections import Counter
 
 from fingers import columns_of
+from left_out import may_leave_out, staying
 from pool_text import Fault, Reader
 from pools import POOL, START, Met, PoolLevels, State
 from trails import Lemma, gaps_proved
@@ -63,16 +64,19 @@ def gaps_in(columns):
 def check(fingers, name, text):
     """The certificate and the gaps that it proves; a Fault tells what `check` reports of any other text."""
     certificate = Reader(fingers, name).read(text)
+    out = certificate.out
+    if out is not None and not may_leave_out(fingers, out):
+        raise Fault("trails Gates")
     gates = {one.gate for one in [*fingers.p, *fingers.n]}
     if sorted(certificate.order) != sorted(gates):
         raise Fault("trails Gates")
-    levels = PoolLevels(fingers, certificate.order, certificate.fill)
+    levels = PoolLevels(staying(fingers, out), certificate.order, certificate.fill)
     if levels.crowded is not None:
         raise Fault(f"trails Choices gate {fingers.nets[levels.crowded]}")
     lemmas = [Lemma(line.bound, line.done, state_of(levels, line)) for line in certificate.lines]
     wrong, ends = levels.first_unproved(lemmas)
     if wrong is not None:
-        raise Fault(f"trails Unproved line {5 + wrong}")
+        raise Fault(f"trails Unproved line {(5 if out is None else 7) + wrong}")
     proved = gaps_proved(ends)
     check_row(fingers, certificate, proved)
     return certificate, proved

@@ -1,5 +1,9 @@
-"""Changes of certificates by trails of version 2, one at a time, as text. Many are faults; some say the same or say something else that is true."""
-HEAD = 4                                                     # lines before the lemmas
+"""Changes of certificates by trails of versions 2 and 3, one at a time, as text. Many are faults; some say the same or say something else that is
+true."""
+from left_out import gates_with_more
+from pool_text import FEWER, VERSION
+
+HEAD = 4                                                     # lines before the lemmas in version 2
 
 
 def words_with(line, at, word):
@@ -137,12 +141,58 @@ def of_row(draw, lines, first):
     yield "a column changed", [*lines[:at], words_with(lines[at], field, draw.choice("-0123")), *lines[at + 1:]]
 
 
-def changes(draw, nets, lines):
-    """Pairs of what is changed and the lines then."""
+def of_left_out(draw, fingers, lines):
+    """Changes of the two lines of version 3 that are before a text of version 2."""
+    first, (_, row, listing), rest = lines[0], lines[1].split(" "), lines[2:]
+    items, nets, other = listing.split(","), len(fingers.nets), "N" if row == "P" else "P"
+    fewer = gates_with_more(fingers, row)
+
+    def put(gates, at=row):
+        return [first, f"without {at} {gates}", *rest]
+
+    def also(net):
+        return ",".join(sorted({*items, str(net)}, key=int))
+    yield "the other row left out", put(listing, other)
+    yield "no such row", put(listing, draw.choice((row.lower(), "-", "", "PN", "0")))
+    yield "a gate twice", put(f"{listing},{items[-1]}")
+    yield "gates not ascending", put(f"{listing},{draw.randrange(int(items[-1]) + 1)}")
+    yield "any net more", put(also(draw.randrange(nets)))
+    yield "a gate of no net", put(f"{listing},{nets}")
+    yield "no gates", put(draw.choice(("-", "", f"{listing},", f"{listing},-", f"0{listing}", f"+{listing}")))
+    yield "all nets", put(",".join(map(str, range(nets))))
+    if fewer:
+        yield "a gate with fewer fingers in the other row", put(also(draw.choice(fewer)))
+    if len(items) > 1:
+        yield "a gate less", put(",".join(less(draw, items)))
+        yield "gates turned round", put(",".join(items[::-1]))
+    yield "words more", put(f"{listing} {draw.choice((listing, '', '-'))}")
+    yield "without the line of what is left out", [first, *rest]
+    yield "without the first line", [lines[1], *rest]
+    yield "without both lines", rest
+    yield "versions swapped", [rest[0], lines[1], first, *rest[1:]]
+    yield "version 1 behind both lines", [first, lines[1], "cellgen-trails 1", *rest[1:]]
+    yield "both lines twice", [first, lines[1], *lines]
+    yield "only two lines", lines[:2]
+    yield "only one line", lines[:1]
+
+
+def changes(draw, fingers, lines):
+    """Pairs of what is changed and the lines then; first the lines as they are."""
+    if lines[0] == FEWER:
+        yield from ((what, [*lines[:2], *new]) for what, new in of_text(draw, len(fingers.nets), lines[2:]))
+        yield from of_left_out(draw, fingers, lines)
+    else:
+        yield from of_text(draw, len(fingers.nets), lines)
+        yield "fingers left out", [FEWER, f"without {draw.choice('PN')} {draw.choice(lines[3].split(' ')[1].split(','))}", *lines]
+
+
+def of_text(draw, nets, lines):
+    """Changes of a text of version 2."""
     def put(at, *new):
         return [*lines[:at], *new, *lines[at + 1:]]
     yield "nothing", lines
-    yield "version 3", put(0, "cellgen-trails 3")
+    yield "version 3", put(0, FEWER)
+    yield "another version", put(0, draw.choice(("cellgen-trails 0", "cellgen-trails 4", "cellgen-trails", VERSION + " ")))
     yield "another name", put(1, lines[1] + "y")
     for at, name in ((2, "fill"), (3, "order")):
         for what, line in of_nets(draw, nets, lines[at], name):

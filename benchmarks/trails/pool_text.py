@@ -1,15 +1,17 @@
-"""The text of certificates by trails of version 2, written and read, as docs/FORMATS.md has it. It shares no code with the program."""
+"""The text of certificates by trails of versions 2 and 3, written and read, as docs/FORMATS.md has it. It shares no code with the program."""
 from collections import namedtuple
 
+from left_out import LeftOut
 from pools import POOL
 
-VERSION = "cellgen-trails 2"
+VERSION, FEWER = "cellgen-trails 2", "cellgen-trails 3"
 MOST_COUNT = MOST_BOUND = 64
 MOST_DONE, MOST_GAPS = 31, 63
 
 # A lemma's line: ODD and CLASSES as places, classes with their mark, FREE as balances by net.
 Line = namedtuple("Line", "bound done odd free classes")
-Certificate = namedtuple("Certificate", "fill order lines gaps columns")   # gaps and columns are None where no row is listed
+# `out` is None in version 2, gaps and columns are None where no row is listed.
+Certificate = namedtuple("Certificate", "out fill order lines gaps columns")
 
 
 class Fault(Exception):
@@ -40,9 +42,10 @@ def line_text(lemma, in_p):
     return " ".join(["lemma", str(lemma.bound), str(lemma.done), listed(place_text(node, in_p) for node in odd), listed(free), listed(each)])
 
 
-def certificate_text(name, fill, order, levels, lemmas, row=None):
-    """The text; `row` is the number of gaps and the columns' lines, if a row is listed."""
-    head = [VERSION, f"cell {name}", "fill " + listed(map(str, sorted(fill))), "order " + listed(map(str, order))]
+def certificate_text(name, fill, order, levels, lemmas, row=None, out=None):
+    """The text; `row` is the number of gaps and the columns' lines, if a row is listed, and `out` what is left out of the levels, if anything is."""
+    head = [] if out is None else [FEWER, f"without {out.row} " + ",".join(map(str, out.gates))]
+    head += [VERSION, f"cell {name}", "fill " + listed(map(str, sorted(fill))), "order " + listed(map(str, order))]
     ending = ["open"] if row is None else [f"gaps {row[0]}", *row[1]]
     return "\n".join([*head, *(line_text(lemma, levels.gates.in_p) for lemma in lemmas), *ending, "end", ""])
 
@@ -130,6 +133,12 @@ class Reader:
             raise ValueError(words)
         return self.net(gate), sides
 
+    def left_out(self, line):
+        front, row, listing = line.split(" ")
+        if front != "without" or row not in ("P", "N") or listing == "-":
+            raise ValueError(line)
+        return LeftOut(row, ascending(self.net, listing))
+
     def nets_behind(self, word, line, read):
         front, listing = line.split(" ")
         if front != word:
@@ -166,7 +175,11 @@ class Reader:
             if line != "end":
                 raise ValueError(line)
 
-        if line_by(str) != VERSION:
+        first, out = line_by(str), None
+        if first == FEWER:
+            out = line_by(self.left_out)
+            first = line_by(str)
+        if first != VERSION:
             raise Fault("trails Version")
         if line_by(str) != f"cell {self.name}":
             raise Fault("trails Cell")
@@ -182,4 +195,4 @@ class Reader:
         line_by(end)
         if lines[at:] or rest:
             raise Fault(f"trails Line line {at + 1}")
-        return Certificate(fill, order, found, gaps, columns)
+        return Certificate(out, fill, order, found, gaps, columns)

@@ -64,6 +64,7 @@ class Gates:
         self.counted, self.facing = (fingers.p, fingers.n) if self.in_p else (fingers.n, fingers.p)
         self.open = {gate for gate in left_open if (on[gate][0] > on[gate][1]) == self.in_p}
         self.pools = set().union(*(nets_on(self.counted, gate) for gate in left_open))
+        self.numbers, self.columns = {}, {}                  # each edge has a number, and each column those of its edges
         self.fewer = [{gate for gate in order if on[gate][row] < on[gate][not row]} for row in (0, 1)]
 
     def place(self, node):
@@ -92,10 +93,9 @@ class Gates:
         """Each finger of the facing row shares a column with one of those that are alone so far."""
         ways = [((), tuple(counted))]
         for one in facing:
-            pairs = ((edges, alone, other) for edges, alone in ways for other in dict.fromkeys(alone))
-            ways = each_once((more, without(alone, other)) for edges, alone, other in pairs
-                             for more in with_edges(edges, edges_of(self.fingers, *((other, one) if self.in_p else (one, other)))))
-        return [Choice(edges, tuple((one.lo, one.hi) for one in alone)) for edges, alone in ways]
+            ways = self.with_columns((edges, without(alone, other), (other, one) if self.in_p else (one, other))
+                                     for edges, alone in ways for other in dict.fromkeys(alone))
+        return self.named(ways)
 
     def filled_choices(self, above, below):
         """Each P finger shares a column with one of the N fingers left, or is alone where fewer are left. Then each N finger left is alone."""
@@ -106,10 +106,21 @@ class Gates:
             ways = self.with_columns(pairs)
         for _ in range(len(below) - len(above)):
             ways = self.with_columns((edges, left[1:], (None, left[0])) for edges, left in ways)
-        return [Choice(edges, ()) for edges, _ in ways]
+        return self.named(ways)
 
     def with_columns(self, pairs):
-        return each_once((more, left) for edges, left, column in pairs for more in with_edges(edges, edges_of(self.fingers, *column)))
+        return each_once((more, left) for edges, left, column in pairs for more in with_edges(edges, self.edges_in(column)))
+
+    def edges_in(self, column):
+        """The numbers of a column's edges."""
+        if column not in self.columns:
+            self.columns[column] = [self.numbers.setdefault(edge, len(self.numbers)) for edge in edges_of(self.fingers, *column)]
+        return self.columns[column]
+
+    def named(self, ways):
+        """The choices with their edges in place of numbers, and with the nets of the fingers that are alone."""
+        edges = list(self.numbers)
+        return [Choice(tuple(sorted(edges[number] for number in numbers)), tuple((one.lo, one.hi) for one in alone)) for numbers, alone in ways]
 
 
 def join(met, one, other):
