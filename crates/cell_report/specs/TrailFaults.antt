@@ -10,6 +10,7 @@ use Rattle.cell_report.specs.Names.{name_of}
 abbrev pub trail_fault : List (List ℕ) → TrailRefusal → Fault
 trail_fault nets refusal.Gates = fault_of (codes "Gates") []
 trail_fault nets (refusal.Choices gate) = with_text (codes "Choices") (codes "gate") (name_of nets gate.0)
+trail_fault nets (refusal.Line line) = at_line (codes "Line") line
 trail_fault nets (refusal.Unproved line) = at_line (codes "Unproved") line
 trail_fault nets (refusal.NoRow best) = with_one (codes "NoRow") (codes "best") best
 trail_fault nets refusal.NotArrangement = fault_of (codes "NotArrangement") []

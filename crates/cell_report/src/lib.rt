@@ -24,7 +24,7 @@ pub use faults::{put_fold, put_log, put_refused, put_spice, put_tech};
 pub use layout_faults::{put_extract, put_gds, put_rules};
 pub use logs::{put_checked, put_low_checked, put_unfinished};
 pub use netlist::put_netlist;
-pub use reports::{cycle_report, log_unfinished, open_ring_report, spent_report, tall_report};
+pub use reports::{cycle_report, log_unfinished, open_ring_report, tall_report, unfinished_report};
 pub use ring::put_ring;
 pub use row::{put_plan, put_row};
 pub use row_faults::put_row_fault;

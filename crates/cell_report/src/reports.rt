@@ -54,8 +54,8 @@ pub fn open_ring_report(
     Ok(report)
 }
 
-/// The report of a search that spent its budget.
-pub fn spent_report(alloc: Global, proved: u32, lemmas: u64) -> Result<Bytes, NoMemory>
+/// The report of a search that ends without a row.
+pub fn unfinished_report(alloc: Global, proved: u32, lemmas: u64) -> Result<Bytes, NoMemory>
     ensures { IfOk result (λ report. report ≡ first_line status.Unfinished ++ unfinished_text proved lemmas) }
 {
     let mut report = Status::Unfinished.report(alloc)?;
@@ -74,7 +74,7 @@ pub fn log_unfinished(
     requires fits { ForSome (λ k. Fits k log) }
     ensures { IfOk result (λ end. end ≡ unfinished_end cell.now proved log) }
 {
-    let front = spent_report(alloc, proved, log.count())?;
+    let front = unfinished_report(alloc, proved, log.count())?;
     let text = LogText::new(alloc, &cell.name, log)?;
     let report = Content::with_log(front, text);
     Ok(End::tells(alloc, Status::Unfinished, report))

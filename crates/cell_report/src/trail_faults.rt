@@ -54,6 +54,7 @@ pub fn put_trail_refusal(
     match cause {
         TrailRefusal::Gates => put_fault(out, b"trails", b"Gates", &[]),
         TrailRefusal::Choices { gate } => put_choices(out, nets, *gate),
+        TrailRefusal::Line { line } => put_one(out, b"Line", b"line", *line),
         TrailRefusal::Unproved { line } => put_one(out, b"Unproved", b"line", *line),
         TrailRefusal::NoRow { best } => put_one(out, b"NoRow", b"best", *best),
         TrailRefusal::NotArrangement => put_fault(out, b"trails", b"NotArrangement", &[]),

@@ -17,8 +17,8 @@ use Rattle.fewer_log.specs.declared.certificate.FewerCertificate.{FewerCertifica
 use Rattle.pool_check.specs.declared.refusal.PoolRefusal.{PoolRefusal}
 use Rattle.pool_check.specs.declared.refusal.PoolRefusal.TheVariants as cause
 use Rattle.pool_check.proofs.Low.{accepted_low as lemmas_low, accepted_true as lemmas_true}
-use Rattle.pool_certificate.specs.Accepted.{AreProved, AreTrueLemmas, IsAccepted, lemmas_of, open_of}
-use Rattle.pool_certificate.specs.Refusal.{LemmasRefused, lemma_line, refusal_of}
+use Rattle.pool_certificate.specs.Accepted.{AreProved, AreTexts, AreTrueLemmas, IsAccepted, lemmas_of, open_of}
+use Rattle.pool_certificate.specs.Refusal.{EndsRefused, lemma_line, refusal_of}
 
 accepted_few : (k : Kinds) (f : Fingers) (best gaps : ℕ) (row : Option Best) → BestPasses k f best row gaps → gaps ≤ best
 accepted_few k f best gaps None passes = absurd passes
@@ -47,17 +47,18 @@ module _ (f : Fingers) (c : FewerCertificate) where
   least_low ok (Ok gaps) h = accepted_low ok gaps h
   least_low ok (Err why) h = tt
 
-  pub row_accepted : MayLeave c.out f → (ends least : ℕ) (r : Result ℕ TrailRefusal) → least ≡ gaps_proved ends
+  pub row_accepted : MayLeave c.out f → AreTexts (staying c.out f) c.pools → (ends least : ℕ) (r : Result ℕ TrailRefusal) → least ≡ gaps_proved ends
       → AreProved (staying c.out f) c.pools ends
       → IfOk r (λ gaps. WithKinds f (λ (k : Kinds). BestPasses k f least c.pools.best gaps))
       → IfOk r (IsAccepted f c)
-  row_accepted may ends least (Ok gaps) is accepted passes = record {
+  row_accepted may texts ends least (Ok gaps) is accepted passes = record {
     may = may;
+    texts = texts;
     ends = ends;
     lemmas = accepted;
     passes = subst (λ (n : ℕ). WithKinds f (λ (k : Kinds). BestPasses k f n c.pools.best gaps)) is passes;
   }
-  row_accepted may ends least (Err why) is accepted passes = tt
+  row_accepted may texts ends least (Err why) is accepted passes = tt
 
   -- all its lemmas are true
   pub accepted_true : (r : Result ℕ TrailRefusal) → IfOk r (IsAccepted f c)
@@ -72,6 +73,7 @@ module _ (f : Fingers) (c : FewerCertificate) where
       → (why : TrailRefusal) → Proves (λ (told : ℕ). told ≡ gaps_proved ends) why → Proves (IsLow f) why
   refusal_low ok may ends accepted refusal.Gates h = tt
   refusal_low ok may ends accepted (refusal.Choices gate) h = tt
+  refusal_low ok may ends accepted (refusal.Line line) h = tt
   refusal_low ok may ends accepted (refusal.Unproved line) h = tt
   refusal_low ok may ends accepted (refusal.NoRow best) h =
       subst (IsLow f) (sym h) (counted_low ok may ends accepted)
@@ -95,21 +97,24 @@ module _ (f : Fingers) (c : FewerCertificate) where
   told_none Says first (cause.Unproved at) = tt
   told_none Says first cause.NoMemory = tt
 
-  told : (Says : ℕ → Type 0) (why : TrailRefusal) → LemmasRefused f c why → Proves Says why
+  told : (Says : ℕ → Type 0) (why : TrailRefusal) → EndsRefused f c why → Proves Says why
   told Says why h = elim h [
     | inl left ↦ subst (Proves Says) (sym left.1) tt
-    | inr others ↦
-        subst (Proves Says) (sym others.1.why_is) (told_none Says (lemma_line c.out) others.1.because)
+    | inr others ↦ elim others.1 [
+      | inl lemmas ↦ subst (Proves Says) (sym lemmas.why_is) (told_none Says (lemma_line c.out) lemmas.because)
+      | inr line ↦ subst (Proves Says) (sym line.1) tt
+    ]
   ]
 
-  -- a refusal of a lemma tells none
-  pub lemmas_tell_none : (Says : ℕ → Type 0) (why : TrailRefusal) → (why ≢ refusal.NoMemory → LemmasRefused f c why)
+  -- a refusal before the row tells none
+  pub ends_tell_none : (Says : ℕ → Type 0) (why : TrailRefusal) → (why ≢ refusal.NoMemory → EndsRefused f c why)
       → Proves Says why
-  lemmas_tell_none Says refusal.Gates h = tt
-  lemmas_tell_none Says (refusal.Choices gate) h = tt
-  lemmas_tell_none Says (refusal.Unproved line) h = tt
-  lemmas_tell_none Says (refusal.NoRow best) h = told Says (refusal.NoRow best) (h (λ e. cc))
-  lemmas_tell_none Says refusal.NotArrangement h = tt
-  lemmas_tell_none Says (refusal.Gaps said counted) h = tt
-  lemmas_tell_none Says (refusal.NotLeast best said) h = told Says (refusal.NotLeast best said) (h (λ e. cc))
-  lemmas_tell_none Says refusal.NoMemory h = tt
+  ends_tell_none Says refusal.Gates h = tt
+  ends_tell_none Says (refusal.Choices gate) h = tt
+  ends_tell_none Says (refusal.Line line) h = tt
+  ends_tell_none Says (refusal.Unproved line) h = tt
+  ends_tell_none Says (refusal.NoRow best) h = told Says (refusal.NoRow best) (h (λ e. cc))
+  ends_tell_none Says refusal.NotArrangement h = tt
+  ends_tell_none Says (refusal.Gaps said counted) h = tt
+  ends_tell_none Says (refusal.NotLeast best said) h = told Says (refusal.NotLeast best said) (h (λ e. cc))
+  ends_tell_none Says refusal.NoMemory h = tt

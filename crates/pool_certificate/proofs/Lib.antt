@@ -1,4 +1,5 @@
 pub mod Least
+pub mod OtherLines
 pub mod Refusals
 pub mod Rules
 pub mod Unproved

@@ -1,7 +1,9 @@
 -- What the refusals of lemmas and of a row come to, and that no certificate is accepted and refused for a fault.
-use Rattle.std.specs.Prelude.{ℕ, ◌≡◌, ◌≢◌, ◌≤◌, List, Option, Some, None}
+use Rattle.std.specs.Prelude.{ℕ, ◌≡◌, ◌≢◌, ◌≤◌, ◌<◌, List, Option, Some, None, All, length}
 use Rattle.std.specs.Prelude.{Result, Ok, Err, IfErr}
 use Rattle.std.proofs.Common.{arith, refl, sym, subst, ◌∙◌, inl, inr}
+use Rattle.std.proofs.lemmas.List.Elements.{All-get_or}
+use Rattle.std.proofs.lemmas.Option.{get_or_from_slice_get, slice_get_within}
 use Rattle.cell_num.specs.declared.finger.Fingers.{Fingers}
 use Rattle.cell_num.proofs.Pairs.{Some', some_from_any}
 use Rattle.row_state.specs.declared.kind.Kinds.{Kinds}
@@ -12,63 +14,85 @@ use Rattle.trail_check.specs.declared.refusal.TrailRefusal.{TrailRefusal}
 use Rattle.trail_check.specs.declared.refusal.TrailRefusal.TheVariants as refusal
 use Rattle.trail_check.specs.Justified.{gaps_proved}
 use Rattle.trail_check.specs.Refusal.{IsFault, RowRefused}
+use Rattle.trail_pools.specs.declared.level.PoolLevel.{PoolLevel}
+use Rattle.trail_pools.specs.declared.pools.Pools.{Pools}
+use Rattle.trail_pools.specs.Leveled.{levels_of, pools_of}
 use Rattle.trail_pools.specs.State.{start}
 use Rattle.end_lemmas.specs.declared.lemma.EndLemma.{EndLemma}
 use Rattle.end_lemmas.specs.Justified.{AreEndsProved, IsAtStart}
 use Rattle.fewer_fingers.specs.Fewer.{MayLeave, staying}
 use Rattle.fewer_log.specs.declared.certificate.FewerCertificate.{FewerCertificate}
+use Rattle.pool_log.specs.declared.lemma.PoolLine.{PoolLine}
+use Rattle.pool_lines.specs.Texts.{IsTextOfState}
 use Rattle.pool_check.specs.declared.refusal.PoolRefusal.{PoolRefusal}
 use Rattle.pool_check.specs.declared.refusal.PoolRefusal.TheVariants as cause
 use Rattle.pool_check.specs.Refusal.{IsFault as IsFaultOfLemmas, Refuses as RefusesLemmas}
 use Rattle.pool_check.proofs.Refusals.{faults_never as lemmas_never}
-use Rattle.pool_certificate.specs.Accepted.{AreProved, HasFewWaysOf, IsAccepted, IsNeverAccepted, lemmas_of, open_of}
-use Rattle.pool_certificate.specs.Refusal.{IsRowRefused, AreLemmasRefused, LemmasRefused, Refuses, lemma_line, refusal_of}
+use Rattle.pool_certificate.specs.Accepted.{AreProved, AreTexts, HasFewWaysOf, IsAccepted, IsNeverAccepted}
+use Rattle.pool_certificate.specs.Accepted.{lemmas_of, open_of}
+use Rattle.pool_certificate.specs.Refusal.{AreLemmasRefused, AreTextsBefore, EndsRefused, IsFirstOther, IsForLine}
+use Rattle.pool_certificate.specs.Refusal.{IsRowRefused, LemmasRefused, Refuses, lemma_line, refusal_of}
 
 module _ (f : Fingers) (c : FewerCertificate) where
   unproved_cause : MayLeave c.out f → (because : PoolRefusal)
+      → AreTextsBefore (staying c.out f) c.pools because
       → RefusesLemmas (staying c.out f) (open_of (staying c.out f) c.pools) c.pools.order
       (lemmas_of (staying c.out f) c.pools) because
       → Refuses f c (refusal_of (lemma_line c.out) because)
-  unproved_cause may cause.Order h = inr (may, record { because = cause.Order; why_is = refl; refused = h })
-  unproved_cause may (cause.Choices gate) h =
-      inr (may, record { because = cause.Choices gate; why_is = refl; refused = h })
-  unproved_cause may (cause.Unproved at) h =
-      inr (may, record { because = cause.Unproved at; why_is = refl; refused = h })
-  unproved_cause may cause.NoMemory h = tt
+  unproved_cause may cause.Order texts h =
+      inr (may, record { because = cause.Order; why_is = refl; texts = texts; refused = h })
+  unproved_cause may (cause.Choices gate) texts h =
+      inr (may, record { because = cause.Choices gate; why_is = refl; texts = texts; refused = h })
+  unproved_cause may (cause.Unproved at) texts h =
+      inr (may, record { because = cause.Unproved at; why_is = refl; texts = texts; refused = h })
+  unproved_cause may cause.NoMemory texts h = tt
 
-  pub lemmas_refuse : (why : TrailRefusal) → LemmasRefused f c why → Refuses f c why
-  lemmas_refuse why h = elim h [
+  lemmas_cause : MayLeave c.out f → (why : TrailRefusal)
+      → AreLemmasRefused (staying c.out f) c.pools (lemma_line c.out) why → Refuses f c why
+  lemmas_cause may why h =
+      subst (Refuses f c) (sym h.why_is) (unproved_cause may h.because h.texts h.refused)
+
+  line_cause : MayLeave c.out f → (why : TrailRefusal) → IsForLine (staying c.out f) c.pools (lemma_line c.out) why
+      → Refuses f c why
+  line_cause may why (line, is, h) = subst (Refuses f c) (sym is) (may, h)
+
+  pub ends_refuse : (why : TrailRefusal) → EndsRefused f c why → Refuses f c why
+  ends_refuse why h = elim h [
     | inl left ↦ subst (Refuses f c) (sym left.1) (inl (left.0, refl))
-    | inr others ↦
-        subst (Refuses f c) (sym others.1.why_is) (unproved_cause others.0 others.1.because others.1.refused)
+    | inr others ↦ elim others.1 [
+      | inl lemmas ↦ lemmas_cause others.0 why lemmas
+      | inr line ↦ line_cause others.0 why line
+    ]
   ]
 
   -- ---- the row
 
-  pub row_refuses : (ends : ℕ) (why : TrailRefusal) → MayLeave c.out f → AreProved (staying c.out f) c.pools ends
+  pub row_refuses : (ends : ℕ) (why : TrailRefusal) → MayLeave c.out f → AreTexts (staying c.out f) c.pools
+      → AreProved (staying c.out f) c.pools ends
       → HasFewWaysOf (staying c.out f) c.pools
       → WithKinds f (λ (k : Kinds). RowRefused k f (gaps_proved ends) c.pools.best why) → Refuses f c why
-  row_refuses ends refusal.Gates may accepted few (k, of_k, some_k, h) = absurd h
-  row_refuses ends (refusal.Choices gate) may accepted few (k, of_k, some_k, h) = absurd h
-  row_refuses ends (refusal.Unproved line) may accepted few (k, of_k, some_k, h) = absurd h
-  row_refuses ends (refusal.NoRow best) may accepted few h =
-      record { may = may; ends = ends; lemmas = accepted; few_ways = few; row = h }
-  row_refuses ends refusal.NotArrangement may accepted few h =
-      record { may = may; ends = ends; lemmas = accepted; few_ways = few; row = h }
-  row_refuses ends (refusal.Gaps said counted) may accepted few h =
-      record { may = may; ends = ends; lemmas = accepted; few_ways = few; row = h }
-  row_refuses ends (refusal.NotLeast best said) may accepted few h =
-      record { may = may; ends = ends; lemmas = accepted; few_ways = few; row = h }
-  row_refuses ends refusal.NoMemory may accepted few h = tt
+  row_refuses ends refusal.Gates may texts accepted few (k, of_k, some_k, h) = absurd h
+  row_refuses ends (refusal.Choices gate) may texts accepted few (k, of_k, some_k, h) = absurd h
+  row_refuses ends (refusal.Line line) may texts accepted few (k, of_k, some_k, h) = absurd h
+  row_refuses ends (refusal.Unproved line) may texts accepted few (k, of_k, some_k, h) = absurd h
+  row_refuses ends (refusal.NoRow best) may texts accepted few h =
+      record { may = may; texts = texts; ends = ends; lemmas = accepted; few_ways = few; row = h }
+  row_refuses ends refusal.NotArrangement may texts accepted few h =
+      record { may = may; texts = texts; ends = ends; lemmas = accepted; few_ways = few; row = h }
+  row_refuses ends (refusal.Gaps said counted) may texts accepted few h =
+      record { may = may; texts = texts; ends = ends; lemmas = accepted; few_ways = few; row = h }
+  row_refuses ends (refusal.NotLeast best said) may texts accepted few h =
+      record { may = may; texts = texts; ends = ends; lemmas = accepted; few_ways = few; row = h }
+  row_refuses ends refusal.NoMemory may texts accepted few h = tt
 
-  pub row_err : MayLeave c.out f → (ends least : ℕ) → least ≡ gaps_proved ends
+  pub row_err : MayLeave c.out f → AreTexts (staying c.out f) c.pools → (ends least : ℕ) → least ≡ gaps_proved ends
       → AreProved (staying c.out f) c.pools ends → HasFewWaysOf (staying c.out f) c.pools → (r : Result ℕ TrailRefusal)
       → IfErr r (λ why.
       why ≢ refusal.NoMemory → WithKinds f (λ (k : Kinds). RowRefused k f least c.pools.best why))
       → IfErr r (λ why. why ≢ refusal.NoMemory → Refuses f c why)
-  row_err may ends least is accepted few (Ok gaps) h = tt
-  row_err may ends least is accepted few (Err why) h = λ other.
-      row_refuses ends why may accepted few
+  row_err may texts ends least is accepted few (Ok gaps) h = tt
+  row_err may texts ends least is accepted few (Err why) h = λ other.
+      row_refuses ends why may texts accepted few
       (subst (λ (n : ℕ). WithKinds f (λ (k : Kinds). RowRefused k f n c.pools.best why)) is (h other))
 
 -- ---- not both
@@ -78,6 +102,7 @@ row_not_both : (k : Kinds) (f : Fingers) (least : ℕ) (row : Option Best) (gaps
 row_not_both k f least None gaps why passes h other = passes
 row_not_both k f least (Some row) gaps refusal.Gates passes h other = h
 row_not_both k f least (Some row) gaps (refusal.Choices gate) passes h other = h
+row_not_both k f least (Some row) gaps (refusal.Line line) passes h other = h
 row_not_both k f least (Some row) gaps (refusal.Unproved line) passes h other = h
 row_not_both k f least (Some row) gaps (refusal.NoRow best) passes h other = h
 row_not_both k f least (Some row) gaps refusal.NotArrangement passes h other = h passes.arranges
@@ -120,6 +145,7 @@ fault_of_lemmas first cause.NoMemory fault = fault
 no_memory : (why : TrailRefusal) → IsFault why → why ≢ refusal.NoMemory
 no_memory refusal.Gates fault = λ e. cc
 no_memory (refusal.Choices gate) fault = absurd fault
+no_memory (refusal.Line line) fault = λ e. cc
 no_memory (refusal.Unproved line) fault = λ e. cc
 no_memory (refusal.NoRow best) fault = λ e. cc
 no_memory refusal.NotArrangement fault = λ e. cc
@@ -127,7 +153,21 @@ no_memory (refusal.Gaps said counted) fault = λ e. cc
 no_memory (refusal.NotLeast best said) fault = λ e. cc
 no_memory refusal.NoMemory fault = absurd fault
 
+-- one of the lines is not as all are
+texts_not : (pools : Pools) (levels : List PoolLevel) (lines : List PoolLine) (at : ℕ)
+    → IsFirstOther pools levels lines at → All (IsTextOfState pools levels) lines → ⊥
+texts_not pools levels lines at h texts =
+    let within : at < length lines = slice_get_within lines at h.line h.there in
+    h.other
+    (subst (IsTextOfState pools levels) (get_or_from_slice_get lines at h.line h.line h.there)
+    (All-get_or (IsTextOfState pools levels) lines at h.line within texts))
+
 module _ (f : Fingers) (c : FewerCertificate) (gaps : ℕ) (is : IsAccepted f c gaps) where
+  line_not : (line : ℕ) → Refuses f c (refusal.Line line) → ⊥
+  line_not line (may, h) =
+      texts_not (pools_of (staying c.out f) (open_of (staying c.out f) c.pools))
+      (levels_of (staying c.out f) (open_of (staying c.out f) c.pools) c.pools.order) c.pools.lemmas h.at h.line is.texts
+
   unproved_not : (why : TrailRefusal) → AreLemmasRefused (staying c.out f) c.pools (lemma_line c.out) why → IsFault why → ⊥
   unproved_not why h fault =
       lemmas_never (staying c.out f) (open_of (staying c.out f) c.pools) c.pools.order
@@ -151,6 +191,7 @@ module _ (f : Fingers) (c : FewerCertificate) (gaps : ℕ) (is : IsAccepted f c 
   pub not_both : (why : TrailRefusal) → Refuses f c why → IsFault why → ⊥
   not_both refusal.Gates h fault = lemmas_not refusal.Gates h fault
   not_both (refusal.Choices gate) h fault = fault
+  not_both (refusal.Line line) h fault = line_not line h
   not_both (refusal.Unproved line) h fault = lemmas_not (refusal.Unproved line) h fault
   not_both (refusal.NoRow best) h fault = row_not (refusal.NoRow best) h (λ e. cc)
   not_both refusal.NotArrangement h fault = row_not refusal.NotArrangement h (λ e. cc)

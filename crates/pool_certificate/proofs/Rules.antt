@@ -1,14 +1,17 @@
 -- The lemmas that functions name, by function.
-use Rattle.pool_certificate.proofs.Least.{accepted_low, accepted_true, least_low, lemmas_tell_none, refusal_low}
-use Rattle.pool_certificate.proofs.Refusals.{faults_never, lemmas_refuse, row_refuses}
+use Rattle.pool_certificate.proofs.Least.{accepted_low, accepted_true, ends_tell_none, least_low, refusal_low}
+use Rattle.pool_certificate.proofs.Refusals.{ends_refuse, faults_never, row_refuses}
+use Rattle.pool_certificate.proofs.Unproved.{lemmas_refused, line_refused, order_refused}
 
 pub ruleset certificate_rules = (
   accepted_low,
   accepted_true,
   least_low,
   faults_never,
-  lemmas_refuse,
+  ends_refuse,
   row_refuses,
   refusal_low,
-  lemmas_tell_none,
+  ends_tell_none,
 )
+
+pub ruleset ends_rules = (lemmas_refused, line_refused, order_refused)

@@ -1,5 +1,5 @@
 -- Which certificates are accepted.
-use Rattle.std.specs.Prelude.{ℕ, List, map}
+use Rattle.std.specs.Prelude.{ℕ, List, All, map}
 use Rattle.cell_num.specs.declared.finger.Fingers.{Fingers}
 use Rattle.row_state.specs.declared.kind.Kinds.{Kinds}
 use Rattle.log_check.specs.Accepted.{BestPasses, WithKinds}
@@ -16,6 +16,7 @@ use Rattle.fewer_fingers.specs.Fewer.{MayLeave, staying}
 use Rattle.fewer_log.specs.declared.certificate.FewerCertificate.{FewerCertificate}
 use Rattle.pool_log.specs.declared.lemma.PoolLine.{PoolLine}
 use Rattle.pool_lines.specs.Listed.{state_listed}
+use Rattle.pool_lines.specs.Texts.{IsTextOfState}
 use Rattle.pool_check.specs.Accepted.{AreTrueOf, HasFewWays, IsAccepted as AreAccepted}
 
 -- the gates with half columns that are not filled
@@ -35,6 +36,12 @@ abbrev pub lemmas_of : Fingers → OrderCertificate PoolLine → List (EndLemma 
 lemmas_of f pools =
     lemmas_along (pools_of f (open_of f pools)) (levels_of f (open_of f pools) pools.order) pools.lemmas
 
+-- Each line of the certificate is the text of the state that it lists, by the levels of its order. So one state has one
+-- text.
+abbrev pub AreTexts : Fingers → OrderCertificate PoolLine → Type 0
+AreTexts f pools =
+    All (IsTextOfState (pools_of f (open_of f pools)) (levels_of f (open_of f pools) pools.order)) pools.lemmas
+
 -- the lemmas of a certificate prove so many ends of the fingers that they are about
 abbrev pub AreProved : Fingers → OrderCertificate PoolLine → ℕ → Type 0
 AreProved f pools ends = AreAccepted f (open_of f pools) pools.order (lemmas_of f pools) ends
@@ -47,11 +54,12 @@ HasFewWaysOf f pools = HasFewWays f (open_of f pools) pools.order
 abbrev pub AreTrueLemmas : Fingers → OrderCertificate PoolLine → Type 0
 AreTrueLemmas f pools = AreTrueOf f (open_of f pools) pools.order (lemmas_of f pools)
 
--- Each gate of which fingers are left out has as many in the other row. The lemmas are accepted along the order for the
--- other fingers, where half columns of gates that are not filled stay open. The row of all fingers has no more gaps
--- than they prove. How many ways a gate has is not asked.
+-- Each gate of which fingers are left out has as many in the other row. Each line is the text of its state, and the
+-- lemmas are accepted along the order for the other fingers, where half columns of gates that are not filled stay open.
+-- The row of all fingers has no more gaps than they prove. How many ways a gate has is not asked.
 pub record IsAccepted (f : Fingers) (c : FewerCertificate) (gaps : ℕ) : Type 0 where
   pub may : MayLeave c.out f
+  pub texts : AreTexts (staying c.out f) c.pools
   pub ends : ℕ
   pub lemmas : AreProved (staying c.out f) c.pools ends
   pub passes : WithKinds f (λ (k : Kinds). BestPasses k f (gaps_proved ends) c.pools.best gaps)

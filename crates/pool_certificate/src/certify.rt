@@ -4,8 +4,9 @@ ghost use Rattle.fewer_fingers.specs.Fewer.{MayLeave, staying};
 ghost use Rattle.trail_check.specs.Accepted.{IsLow};
 ghost use Rattle.trail_check.specs.Refusal.{IsFault, Proves};
 ghost use Rattle.trail_check.specs.declared.refusal.TrailRefusal.TheVariants as refusal;
-ghost use Rattle.pool_certificate.specs.Accepted.{AreProved, AreTrueLemmas, HasFewWaysOf, IsAccepted, IsNeverAccepted};
-ghost use Rattle.pool_certificate.specs.Refusal.{LemmasRefused, Refuses};
+ghost use Rattle.pool_certificate.specs.Accepted.{AreProved, AreTexts, AreTrueLemmas, HasFewWaysOf, IsAccepted};
+ghost use Rattle.pool_certificate.specs.Accepted.{IsNeverAccepted};
+ghost use Rattle.pool_certificate.specs.Refusal.{EndsRefused, Refuses};
 
 use crate::ends::{ends_of, lemma_line};
 use cell_num::{Fingers, MOST_BYTES};
@@ -23,10 +24,11 @@ fn staying_ends(
     requires fingers { AreFingers fingers.now }
     requires few { length certificate.now.pools.lemmas ≤ MOST_BYTES }
     ensures may { IfOk result (λ _. MayLeave certificate.now.out fingers.now) }
+    ensures texts { IfOk result (λ _. AreTexts (staying certificate.now.out fingers.now) certificate.now.pools) }
     ensures accepted { IfOk result (AreProved (staying certificate.now.out fingers.now) certificate.now.pools) }
     ensures few_ways { IfOk result (λ _.
         HasFewWaysOf (staying certificate.now.out fingers.now) certificate.now.pools) }
-    ensures refused { IfErr result (λ why. why ≢ refusal.NoMemory → LemmasRefused fingers.now certificate.now why) }
+    ensures refused { IfErr result (λ why. why ≢ refusal.NoMemory → EndsRefused fingers.now certificate.now why) }
 {
     if !may_leave(&certificate.out, fingers) {
         return Err(TrailRefusal::Gates);
@@ -42,8 +44,8 @@ fn staying_ends(
 
 /// The gaps of the row that the certificate lists, where it is accepted: no arrangement of the fingers has fewer. Else
 /// the first cause to refuse it. The lemmas are about the fingers that it does not leave out. A gate with too many ways
-/// is no fault of the certificate, nor is a lack of memory. Each lemma of an accepted certificate is true. At most
-/// [`MOST_BYTES`] lemmas.
+/// is no fault of the certificate, nor is a lack of memory. Each lemma of an accepted certificate is true, and its
+/// line the one text of its state. At most [`MOST_BYTES`] lemmas.
 #[tactic(auto, using(crate::proofs::Rules::certificate_rules))]
 pub fn check_certificate(
     alloc: Global,

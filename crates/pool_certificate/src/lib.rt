@@ -3,5 +3,7 @@
 
 mod certify;
 mod ends;
+mod texts;
 
 pub use certify::check_certificate;
+pub use texts::first_other;

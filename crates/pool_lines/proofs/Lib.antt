@@ -1,4 +1,5 @@
 mod States
+pub mod Texts
 mod Keyed
 mod Odd
 mod Back

@@ -2,3 +2,4 @@
 pub mod Listed
 pub mod Lines
 pub mod After
+pub mod Texts

@@ -13,6 +13,7 @@ ghost use Rattle.pool_lines.specs.Lines.{balance_at, class_at, classes_of, is_ev
 ghost use Rattle.pool_lines.specs.Lines.{is_of, line_of, odd_nodes, pair_of, place_of, surplus_of};
 ghost use Rattle.pool_lines.specs.Listed.{state_listed};
 ghost use Rattle.pool_lines.specs.After.{IsAfter};
+ghost use Rattle.pool_lines.specs.Texts.{IsTextOfState};
 
 use cell_num::{List, NetNo, NoMemory};
 use pool_log::{ClassList, ListedPlace, PlaceClass, PoolBalance, PoolLine, Surplus};
@@ -183,7 +184,7 @@ fn line(
     })
 }
 
-/// The line of a lemma on the state after the first `done` gates of an order. It lists this state.
+/// The line of a lemma on the state after the first `done` gates of an order. It lists this state, and is its text.
 pub fn line_of(
     alloc: Global,
     pools: &Pools,
@@ -196,6 +197,10 @@ pub fn line_of(
         → AreFingers f → IsOrder f order → pools.now ≡ pools_of f opened
         → IsAfter pools.now (levels_of f opened order) done state.now
         → state_listed pools.now (levels_of f opened order) line ≡ state.now) }
+    ensures text { IfOk result (λ line. (f : FingersOf) (opened : OpenGatesOf) (order : Sequence NetNoOf)
+        → AreFingers f → IsOrder f order → pools.now ≡ pools_of f opened
+        → IsAfter pools.now (levels_of f opened order) done state.now
+        → IsTextOfState pools.now (levels_of f opened order) line) }
 {
     let line = line(alloc, pools, bound, done, state)?;
     Ok(line)

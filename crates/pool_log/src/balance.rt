@@ -10,14 +10,14 @@ use std::alloc::Global;
 use trail_log::MOST_ENDS;
 
 /// What there is more of at a pool, and how many more: odd nodes that no later gate can meet, or free ends.
-#[derive(Clone, Copy, Debug)]
+#[derive(Clone, Copy, Debug, PartialEq, Eq)]
 pub enum Surplus {
     Waiting(u32),
     Free(u32),
 }
 
 /// The balance of the pool of a net.
-#[derive(Clone, Copy, Debug)]
+#[derive(Clone, Copy, Debug, PartialEq, Eq)]
 pub struct PoolBalance {
     pub net: NetNo,
     pub surplus: Surplus,

@@ -7,6 +7,7 @@ mod lemma;
 mod ordered;
 mod place;
 mod pools;
+mod same;
 
 pub use balance::{BalanceList, PoolBalance, Surplus};
 pub use class::{ClassList, PlaceClass};

@@ -60,6 +60,7 @@ accepted_true f trails (Err cause) h = tt
 pub refusal_low : (f : Fingers) (trails : TrailCertificate) (levels : List Level) (ends : ℕ) (cause : TrailRefusal) → AreFingers f → AreGates f trails → levels ≡ levels_for f trails → Ends levels [] ends → Proves (λ (told : ℕ). told ≡ gaps_proved ends) cause → Proves (IsLow f) cause
 refusal_low f trails levels ends refusal.Gates ok gates are holds h = tt
 refusal_low f trails levels ends (refusal.Choices gate) ok gates are holds h = tt
+refusal_low f trails levels ends (refusal.Line line) ok gates are holds h = tt
 refusal_low f trails levels ends (refusal.Unproved line) ok gates are holds h = tt
 refusal_low f trails levels ends (refusal.NoRow best) ok gates are holds h = subst (IsLow f) (sym h) (ends_low f trails levels ends ok gates are holds)
 refusal_low f trails levels ends refusal.NotArrangement ok gates are holds h = tt
@@ -71,6 +72,7 @@ refusal_low f trails levels ends refusal.NoMemory ok gates are holds h = tt
 pub lemmas_low : (Says : ℕ → Type 0) (first : Option ℕ) (cause : TrailRefusal) → (cause ≢ refusal.NoMemory → LemmasRefused first cause) → Proves Says cause
 lemmas_low Says first refusal.Gates h = tt
 lemmas_low Says first (refusal.Choices gate) h = tt
+lemmas_low Says first (refusal.Line line) h = tt
 lemmas_low Says first (refusal.Unproved line) h = tt
 lemmas_low Says first (refusal.NoRow best) h = absurd (h (λ e. cc))
 lemmas_low Says first refusal.NotArrangement h = tt

@@ -47,6 +47,7 @@ first_refused f trails levels are cause h =
 lemmas_cause : (f : Fingers) (trails : TrailCertificate) (cause : TrailRefusal) → AreGates f trails → HasFewWays f trails → LemmasRefused (first_unproved f trails) cause → Refuses f trails cause
 lemmas_cause f trails refusal.Gates gates few h = absurd h
 lemmas_cause f trails (refusal.Choices gate) gates few h = absurd h
+lemmas_cause f trails (refusal.Line line) gates few h = absurd h
 lemmas_cause f trails (refusal.Unproved line) gates few h = (gates, few, h)
 lemmas_cause f trails (refusal.NoRow best) gates few h = absurd h
 lemmas_cause f trails refusal.NotArrangement gates few h = absurd h
@@ -60,6 +61,7 @@ lemmas_refuse f trails levels cause gates few are h = lemmas_cause f trails caus
 row_cause : (f : Fingers) (trails : TrailCertificate) (cause : TrailRefusal) → AreGates f trails → HasFewWays f trails → first_unproved f trails ≡ None → WithKinds f (λ (k : Kinds). RowRefused k f (least_gaps f trails) trails.best cause) → Refuses f trails cause
 row_cause f trails refusal.Gates gates few justified (k, of_k, some_k, h) = absurd h
 row_cause f trails (refusal.Choices gate) gates few justified (k, of_k, some_k, h) = absurd h
+row_cause f trails (refusal.Line line) gates few justified (k, of_k, some_k, h) = absurd h
 row_cause f trails (refusal.Unproved line) gates few justified (k, of_k, some_k, h) = absurd h
 row_cause f trails (refusal.NoRow best) gates few justified h = (gates, few, justified, h)
 row_cause f trails refusal.NotArrangement gates few justified h = (gates, few, justified, h)
@@ -78,6 +80,7 @@ row_not_both : (k : Kinds) (f : Fingers) (least : ℕ) (row : Option Best) (gaps
 row_not_both k f least None gaps cause passes h other = passes
 row_not_both k f least (Some row) gaps refusal.Gates passes h other = h
 row_not_both k f least (Some row) gaps (refusal.Choices gate) passes h other = h
+row_not_both k f least (Some row) gaps (refusal.Line line) passes h other = h
 row_not_both k f least (Some row) gaps (refusal.Unproved line) passes h other = h
 row_not_both k f least (Some row) gaps (refusal.NoRow best) passes h other = h
 row_not_both k f least (Some row) gaps refusal.NotArrangement passes h other = h passes.arranges
@@ -93,6 +96,7 @@ rows_not_both f least row gaps cause (j, of_j, some_j, passes) (k, of_k, some_k,
 no_memory : (cause : TrailRefusal) → IsFault cause → cause ≢ refusal.NoMemory
 no_memory refusal.Gates fault = λ e. cc
 no_memory (refusal.Choices gate) fault = absurd fault
+no_memory (refusal.Line line) fault = λ e. cc
 no_memory (refusal.Unproved line) fault = λ e. cc
 no_memory (refusal.NoRow best) fault = λ e. cc
 no_memory refusal.NotArrangement fault = λ e. cc
@@ -104,6 +108,8 @@ no_memory refusal.NoMemory fault = absurd fault
 not_both : (f : Fingers) (trails : TrailCertificate) (gaps : ℕ) (cause : TrailRefusal) → IsAccepted f trails gaps → Refuses f trails cause → IsFault cause → ⊥
 not_both f trails gaps refusal.Gates is h fault = h is.gates
 not_both f trails gaps (refusal.Choices gate) is h fault = fault
+not_both f trails gaps (refusal.Line line) is (gates, few, justified, h) fault =
+    rows_not_both f (least_gaps f trails) trails.best gaps (refusal.Line line) is.passes h (λ e. cc)
 not_both f trails gaps (refusal.Unproved line) is (gates, few, first) fault = none-some line (sym is.justified ∙ first)
 not_both f trails gaps (refusal.NoRow best) is (gates, few, justified, h) fault =
     rows_not_both f (least_gaps f trails) trails.best gaps (refusal.NoRow best) is.passes h (λ e. cc)

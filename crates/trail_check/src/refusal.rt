@@ -6,14 +6,18 @@ use thiserror::Error;
 /// Why a certificate is refused, in the order of looking.
 #[derive(Debug, PartialEq, Eq, Drop, Error)]
 pub enum TrailRefusal {
-    /// The order is not each gate of a finger once, or the gates with half columns that are not filled do not all have
-    /// more fingers in one row.
+    /// The order is not each gate of a finger once. Or, in version 1, the gates with half columns that are not filled
+    /// do not all have more fingers in one row. Or, in version 3, a gate of which fingers are left out has fewer in
+    /// the other row.
     #[error("Gates")]
     Gates,
     /// The first gate of the order that is not left open, and whose fingers pair in more than
     /// [`MOST_CHOICES`](crate::MOST_CHOICES) ways.
     #[error("Choices")]
     Choices { gate: NetNo },
+    /// In versions 2 and 3: the first lemma whose line, by its number in the text, is not the one text of its state.
+    #[error("Line")]
+    Line { line: u32 },
     /// The first lemma that is not justified, by its line in the text of the certificate.
     #[error("Unproved")]
     Unproved { line: u32 },

@@ -11,16 +11,17 @@ pub returns-clause-never : goal.returns-clause-never
 returns-clause-never c =
     let is : c.saturating_sub.result / 2 ≡ gaps_proved c.in_ok-ends.ends = search rules in
     faults_never c.args.fingers.now c.args.certificate.now c.check_row.result
-    (row_err c.args.fingers.now c.args.certificate.now c.in_ok-ends.ensures.may c.in_ok-ends.ends
-    (c.saturating_sub.result / 2) is c.in_ok-ends.ensures.accepted c.in_ok-ends.ensures.few_ways c.check_row.result
-    c.check_row.ensures.refused)
+    (row_err c.args.fingers.now c.args.certificate.now c.in_ok-ends.ensures.may c.in_ok-ends.ensures.texts
+    c.in_ok-ends.ends (c.saturating_sub.result / 2) is c.in_ok-ends.ensures.accepted c.in_ok-ends.ensures.few_ways
+    c.check_row.result c.check_row.ensures.refused)
 
 pub returns-clause-least : goal.returns-clause-least
 returns-clause-least c =
     let is : c.saturating_sub.result / 2 ≡ gaps_proved c.in_ok-ends.ends = search rules in
     least_low c.args.fingers.now c.args.certificate.now c.requires.fingers c.check_row.result
-    (row_accepted c.args.fingers.now c.args.certificate.now c.in_ok-ends.ensures.may c.in_ok-ends.ends
-    (c.saturating_sub.result / 2) c.check_row.result is c.in_ok-ends.ensures.accepted c.check_row.ensures.passes)
+    (row_accepted c.args.fingers.now c.args.certificate.now c.in_ok-ends.ensures.may c.in_ok-ends.ensures.texts
+    c.in_ok-ends.ends (c.saturating_sub.result / 2) c.check_row.result is c.in_ok-ends.ensures.accepted
+    c.check_row.ensures.passes)
 
 pub returns-clause-low : goal.returns-clause-low
 returns-clause-low c =
@@ -35,5 +36,6 @@ pub returns-clause-lemmas : goal.returns-clause-lemmas
 returns-clause-lemmas c =
     let is : c.saturating_sub.result / 2 ≡ gaps_proved c.in_ok-ends.ends = search rules in
     accepted_true c.args.fingers.now c.args.certificate.now c.check_row.result
-    (row_accepted c.args.fingers.now c.args.certificate.now c.in_ok-ends.ensures.may c.in_ok-ends.ends
-    (c.saturating_sub.result / 2) c.check_row.result is c.in_ok-ends.ensures.accepted c.check_row.ensures.passes)
+    (row_accepted c.args.fingers.now c.args.certificate.now c.in_ok-ends.ensures.may c.in_ok-ends.ensures.texts
+    c.in_ok-ends.ends (c.saturating_sub.result / 2) c.check_row.result is c.in_ok-ends.ensures.accepted
+    c.check_row.ensures.passes)
