@@ -12,15 +12,15 @@ use Rattle.cell_commands.specs.declared.certificate.Certificate.TheVariants as h
 use Rattle.cell_commands.specs.declared.searched.Searched.{Searched}
 use Rattle.cell_commands.specs.declared.searched.Searched.TheVariants.{Found, Open, Crowded}
 use Rattle.trail_either.specs.declared.evidence.TrailEvidence.{TrailEvidence}
-use Rattle.trail_either.specs.Ended.{IsEitherCertified, IsEitherCrowded, IsEitherFound, IsEitherSpent}
+use Rattle.trail_either.specs.Ended.{IsEitherCertified, IsEitherCrowded, IsEitherFound, IsEitherOpen}
 
 -- the certificate by trails, of any version, is accepted and lists the row, and was found within the budget
 abbrev pub IsFoundByTrails : Inputs → List Column → TrailEvidence → Type 0
 IsFoundByTrails inputs row trails = IsEitherFound inputs.fingers inputs.tech.budget row trails
 
--- its lemmas are justified, and prove that many gaps of every row; the budget is spent
+-- Its lemmas are justified, and prove that many gaps of every row. The budget is spent, or no search finds a row.
 abbrev pub IsOpenByTrails : Inputs → ℕ → TrailEvidence → Type 0
-IsOpenByTrails inputs proved trails = IsEitherSpent inputs.fingers inputs.tech.budget trails proved
+IsOpenByTrails inputs proved trails = IsEitherOpen inputs.fingers inputs.tech.budget trails proved
 
 -- the row is the first least one, with a certificate of this kind that is accepted and lists it, found within the
 -- budget

@@ -13,7 +13,7 @@ use call_end::{End, Status, Stem};
 use call_words::Evidence;
 use cell_inputs::{Inputs, Style};
 use cell_num::NoMemory;
-use cell_report::spent_report;
+use cell_report::unfinished_report;
 use row_model::Arrangement;
 use spice_net::Subckt;
 use std::alloc::Global;
@@ -37,7 +37,7 @@ fn certified(
     drawn(alloc, inputs, stem, style, row, evidence)
 }
 
-/// The certificate of what a search proves that spent its budget.
+/// The certificate of what a search proves without a row.
 pub(crate) fn open_end(
     alloc: Global,
     cell: &Subckt,
@@ -49,13 +49,13 @@ pub(crate) fn open_end(
     requires fits { CanBeWritten certificate }
     ensures { IfOk result (IsOpenEnd cell.now stem.now proved certificate) }
 {
-    let report = spent_report(alloc, proved, certificate.lemmas())?;
+    let report = unfinished_report(alloc, proved, certificate.lemmas())?;
     let evidence = row_evidence(alloc, cell, stem, certificate)?;
     Ok(evidence_end(Status::Unfinished, evidence.files, report))
 }
 
 /// The drawing of the first least row with its evidence; or the evidence, with a cycle of the row's nets, with a height
-/// that is not enough, or of a search that spent its budget; or a gate whose fingers pair in too many ways.
+/// that is not enough, or of a search without a row; or a gate whose fingers pair in too many ways.
 pub fn make(
     alloc: Global,
     inputs: &Inputs,

@@ -90,8 +90,8 @@ fn unfinished(
     }
 }
 
-/// The first least row of the inputs, found with such evidence; or what a search proves that spent its budget; or a
-/// gate whose fingers pair in too many ways.
+/// The first least row of the inputs, found with such evidence; or what a search proves without a row; or a gate whose
+/// fingers pair in too many ways.
 pub fn plan(alloc: Global, inputs: &Inputs, evidence: Evidence) -> Result<End, NoMemory>
     ensures { IfOk result (PlansTo evidence inputs.now) }
 {

@@ -19,13 +19,14 @@ pub enum Searched {
         row: Arrangement,
         certificate: Certificate,
     },
-    /// The search spent its budget. The evidence proves that each row has at least `proved` gaps.
+    /// The evidence proves that each row has at least `proved` gaps. The search spent its budget. Or, by trails, each
+    /// row has more gaps, and lemmas prove no more.
     Open {
         certificate: Certificate,
         proved: u32,
     },
     /// There are too many ways to pair the fingers of the gate: the search for a certificate by trails ends at it, and
-    /// finds a row with no version.
+    /// lists lemmas of no version.
     Crowded {
         gate: NetNo,
     },
@@ -65,8 +66,8 @@ fn by_trails(alloc: Global, inputs: &Inputs) -> Result<Searched, NoMemory>
 }
 
 impl Searched {
-    /// The first least row of the fingers with such evidence; or what a search proves that spent its budget; or a gate
-    /// whose fingers pair in too many ways.
+    /// The first least row of the fingers with such evidence; or what a search proves without a row; or a gate whose
+    /// fingers pair in too many ways.
     pub fn of(alloc: Global, inputs: &Inputs, evidence: Evidence) -> Result<Searched, NoMemory>
         ensures { IfOk result (IsSearched evidence inputs.now) }
     {

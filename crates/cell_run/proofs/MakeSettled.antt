@@ -27,7 +27,7 @@ use Rattle.cell_run.proofs.FileNames.{told_files}
 use Rattle.cell_run.proofs.MadeFiles.{evidence_made, files_made, none_drawn, none_left}
 use Rattle.cell_run.specs.Evidence.{Certificate, ProvesAlone, evidence_counts, evidence_name, evidence_text, lemma_count}
 use Rattle.cell_run.specs.Origin.{CertifiesBy, IsRoutedOf, IsRowOf, IsStopOf, Origin, Search, fewest_of, kind_of_evidence}
-use Rattle.cell_run.specs.Headline.{IsCyclicCell, IsMadeCell, IsSpentSearch, IsTallCell, IsUnmade}
+use Rattle.cell_run.specs.Headline.{IsCyclicCell, IsMadeCell, IsOpenMake, IsTallCell, IsUnmade}
 use Rattle.cell_run.specs.Plan.{IsCrowdedCell}
 use Rattle.channel_route.specs.declared.ring.Ring.{Ring}
 use Rattle.channel_route.specs.declared.routing.Routing.{Routing}
@@ -165,11 +165,11 @@ row_leaves origin style inputs out row certificate Routed (RowTall routing) end 
 
 -- ---- by the kind of evidence
 
-spent_so : (evidence : Evidence) (inputs : Inputs) (out : List ℕ) (proved : ℕ) (certificate : Certificate evidence) (end : End) (answer : Status) (old new : View) → ProvesAlone evidence inputs proved certificate → IsSpentEnd evidence inputs out proved certificate end → TellsWhole end answer old new → IsSpentSearch evidence inputs out old new
+spent_so : (evidence : Evidence) (inputs : Inputs) (out : List ℕ) (proved : ℕ) (certificate : Certificate evidence) (end : End) (answer : Status) (old new : View) → ProvesAlone evidence inputs proved certificate → IsSpentEnd evidence inputs out proved certificate end → TellsWhole end answer old new → IsOpenMake evidence inputs out old new
 spent_so evidence inputs out proved certificate end answer old new h is whole = record {
   certificate = certificate;
   proved = proved;
-  spent = h;
+  proves = h;
   files = evidence_made (evidence_name evidence out) (evidence_text evidence inputs.cell.name certificate) end.files old.made new.made is.files whole.1;
   says = said_so _ end.report old.said new.said is.report whole.2;
 }
@@ -196,7 +196,7 @@ made_so Trails style inputs out row (held.Trails trails) drawing end answer old 
 made_so Log style inputs out row (held.Trails trails) drawing end answer old new found h is whole = absurd found
 made_so Trails style inputs out row (held.Log log) drawing end answer old new found h is whole = absurd found
 
-pub open_so : (evidence : Evidence) (inputs : Inputs) (out : List ℕ) (proved : ℕ) (certificate : HeldCertificate) (end : End) (answer : Status) (old new : View) → IsOpenBy evidence inputs proved certificate → IsOpenEnd inputs.cell out proved certificate end → TellsWhole end answer old new → IsSpentSearch evidence inputs out old new
+pub open_so : (evidence : Evidence) (inputs : Inputs) (out : List ℕ) (proved : ℕ) (certificate : HeldCertificate) (end : End) (answer : Status) (old new : View) → IsOpenBy evidence inputs proved certificate → IsOpenEnd inputs.cell out proved certificate end → TellsWhole end answer old new → IsOpenMake evidence inputs out old new
 open_so Log inputs out proved (held.Log log) end answer old new h is whole = spent_so Log inputs out proved log end answer old new h is whole
 open_so Trails inputs out proved (held.Trails trails) end answer old new h is whole = spent_so Trails inputs out proved trails end answer old new h is whole
 open_so Log inputs out proved (held.Trails trails) end answer old new h is whole = absurd h

@@ -44,8 +44,8 @@ found_so Log inputs row (held.Trails trails) end old new found is said = absurd 
 found_so Trails inputs row (held.Log log) end old new found is said = absurd found
 
 spent_so : (evidence : Evidence) (inputs : Inputs) (proved : ℕ) (certificate : Certificate) (end : End) (old new : View) → IsOpenBy evidence inputs proved certificate → end ≡ plan_end inputs (Open proved certificate) → Both (Says end.report) old.said new.said → IsOpenSearch evidence inputs old new
-spent_so Log inputs proved (held.Log log) end old new h is said = record { proved = proved; certificate = log; spent = h; says = said_so end _ old new is said }
-spent_so Trails inputs proved (held.Trails trails) end old new h is said = record { proved = proved; certificate = trails; spent = h; says = said_so end _ old new is said }
+spent_so Log inputs proved (held.Log log) end old new h is said = record { proved = proved; certificate = log; proves = h; says = said_so end _ old new is said }
+spent_so Trails inputs proved (held.Trails trails) end old new h is said = record { proved = proved; certificate = trails; proves = h; says = said_so end _ old new is said }
 spent_so Log inputs proved (held.Trails trails) end old new h is said = absurd h
 spent_so Trails inputs proved (held.Log log) end old new h is said = absurd h
 

@@ -185,11 +185,11 @@ pub record IsTallCell (origin : Origin) (style : Style) (inputs : Inputs) (out :
       Both (Says (first_line status.TooTall ++ fewest_of origin
       ++ tall_text (needed_of row routing.tracks) inputs.tech.height)) old.said new.said
 
--- The search spent its budget: the evidence proves that no row has fewer gaps than the report says.
-pub record IsSpentSearch (evidence : Evidence) (inputs : Inputs) (out : List ℕ) (old new : View) : Type 0 where
+-- The search ends without a row: the evidence proves that no row has fewer gaps than the report says.
+pub record IsOpenMake (evidence : Evidence) (inputs : Inputs) (out : List ℕ) (old new : View) : Type 0 where
   pub certificate : Certificate evidence
   pub proved : ℕ
-  pub spent : ProvesAlone evidence inputs proved certificate
+  pub proves : ProvesAlone evidence inputs proved certificate
   pub files :
       Both (HasEvidence (evidence_name evidence out) (evidence_text evidence inputs.cell.name certificate))
       old.made new.made
@@ -200,7 +200,7 @@ pub record IsSpentSearch (evidence : Evidence) (inputs : Inputs) (out : List ℕ
 -- The evidence was reported and is there, or a gate was reported, and the files are as before.
 abbrev pub IsUnmade : Evidence → Inputs → List ℕ → View → View → Type 0
 IsUnmade evidence inputs out old new =
-    IsSpentSearch evidence inputs out old new ⊎ (IsCrowdedCell evidence inputs old new × (new.made ≡ old.made))
+    IsOpenMake evidence inputs out old new ⊎ (IsCrowdedCell evidence inputs old new × (new.made ≡ old.made))
 
 -- ---- how `make` has to end
 

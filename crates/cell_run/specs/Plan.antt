@@ -1,5 +1,5 @@
--- What a call of `plan` reports: the row, with evidence; or what a search that spent its budget proves, or a gate with
--- too many ways to pair its fingers. What calls for the row.
+-- What a call of `plan` reports: the row, with evidence; or what a search proves without a row, or a gate with too many
+-- ways to pair its fingers. What calls for the row.
 use Rattle.std.specs.Prelude.{ℕ, ◌⊎◌, List, ◌++◌, Option}
 use Rattle.cell_io.specs.Desk.{Files, View, Both}
 use Rattle.cell_num.specs.declared.net.NetNo.{NetNo}
@@ -41,13 +41,14 @@ pub record IsPlannedRow (evidence : Evidence) (inputs : Inputs) (old new : View)
 pub record IsOpenSearch (evidence : Evidence) (inputs : Inputs) (old new : View) : Type 0 where
   pub certificate : Certificate evidence
   pub proved : ℕ
-  pub spent : ProvesAlone evidence inputs proved certificate
+  pub proves : ProvesAlone evidence inputs proved certificate
   pub says :
       Both (Says (first_line status.Unfinished ++ unfinished_text proved (lemma_count evidence certificate)
       ++ evidence_text evidence inputs.cell.name certificate)) old.said new.said
 
 -- A gate was reported with too many ways to pair its fingers, and no row. It is the first such gate that is not left
--- open. Or it is the first that is left open, and every row has more gaps than lemmas prove then.
+-- open. Or it is the first that is left open, and every row has more gaps than lemmas prove then. No search with pools
+-- could list lemmas.
 pub record IsCrowdedCell (evidence : Evidence) (inputs : Inputs) (old new : View) : Type 0 where
   pub gate : NetNo
   pub crowded : Crowds evidence inputs gate

@@ -107,7 +107,7 @@ pub fn run<D: Desk>(alloc: Global, words: &[String], desk: &mut D) -> Status
     ensures once { Both CreatesOnce (D.view desk.old).created (D.view desk.new).created }
 
     // What `make` leaves: the drawing of the first least row, with its evidence; or a cycle of that row; or the height
-    // that it needs; or what a search proves that spent its budget, or a gate with too many ways to pair its fingers.
+    // that it needs; or what a search proves without a row, or a gate with too many ways to pair its fingers.
     ensures drawn { IfSome (D.view desk.old).given (λ files. WhereMakeEnds files (asked words.now) result status.Done
         (λ e style inputs out. IsMadeCell (Search e) style inputs out (D.view desk.old) (D.view desk.new))) }
     ensures cyclic { IfSome (D.view desk.old).given (λ files. WhereMakeEnds files (asked words.now) result status.Cycle
@@ -157,8 +157,8 @@ pub fn run<D: Desk>(alloc: Global, words: &[String], desk: &mut D) -> Status
         DrawsFirst files (asked words.now) → IsDoneOrShort result
         ⊎ LeavesGapsOpen files (asked words.now) result (D.view desk.old) (D.view desk.new)) }
 
-    // What `plan` reports: the first least row, with evidence that is accepted; or what a search proves that spent its
-    // budget, or a gate with too many ways to pair its fingers.
+    // What `plan` reports: the first least row, with evidence that is accepted; or what a search proves without a row,
+    // or a gate with too many ways to pair its fingers.
     ensures planned { IfSome (D.view desk.old).given (λ files. WherePlanEnds files (asked words.now) result
         status.Done (λ evidence inputs. IsPlannedRow evidence inputs (D.view desk.old) (D.view desk.new))) }
     ensures unplanned { IfSome (D.view desk.old).given (λ files. WherePlanEnds files (asked words.now) result

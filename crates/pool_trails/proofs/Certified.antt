@@ -1,5 +1,5 @@
 -- The first row of the proved number is the first least one, and its certificate is accepted.
-use Rattle.std.specs.Prelude.{ℕ, ◌≡◌, ◌+◌, ◌≤◌, ◌<◌, ◌⊎◌, Bool, List, Option, IfSome, IsNone}
+use Rattle.std.specs.Prelude.{ℕ, ◌≡◌, ◌+◌, ◌≤◌, ◌<◌, Bool, List, Option, IfSome, IsNone}
 use Rattle.std.proofs.Common.{refl, sym, ap, subst, arith, inl, inr}
 use Rattle.cell_num.specs.declared.finger.Fingers.{Fingers}
 use Rattle.cell_num.specs.declared.net.NetNo.{NetNo}
@@ -21,7 +21,9 @@ use Rattle.open_gates.specs.Open.{open_in}
 use Rattle.trail_check.specs.Accepted.{IsLow}
 use Rattle.trail_check.specs.Justified.{gaps_proved}
 use Rattle.trail_search.specs.declared.first.ListedRow.{ListedRow}
+use Rattle.trail_search.specs.declared.attempts.Attempts.{Attempts}
 use Rattle.trail_search.specs.First.{IsFirstRow}
+use Rattle.trail_search.specs.Searched.{WentForRow}
 use Rattle.trail_search.specs.Visit.{IsFirstOf}
 use Rattle.trail_search.proofs.Certified.{few_gaps, first_least, gaps_are, row_gaps, row_passes}
 use Rattle.trail_pools.specs.declared.state.PoolState.{PoolState}
@@ -38,15 +40,16 @@ use Rattle.fewer_fingers.specs.Fewer.{MayLeave, staying}
 use Rattle.fewer_fingers.proofs.Law.{staying_fingers, fewer_law}
 use Rattle.fewer_log.specs.declared.certificate.FewerCertificate.{FewerCertificate}
 use Rattle.fewer_log.specs.Fits.{OutFits}
+use Rattle.fewer_log.specs.Listing.{listing}
 use Rattle.pool_check.specs.Accepted.{IsAccepted as AreAccepted}
 use Rattle.pool_check.specs.Stepping.{steps_of}
 use Rattle.pool_check.proofs.Low.{accepted_low}
-use Rattle.pool_certificate.specs.Accepted.{AreProved, HasFewWaysOf, lemmas_of, open_of}
+use Rattle.pool_certificate.specs.Accepted.{AreProved, AreTexts, HasFewWaysOf, lemmas_of, open_of}
 use Rattle.pool_trails.specs.declared.gates.PoolGates.{PoolGates}
 use Rattle.pool_trails.specs.declared.opening.Opening.{Opening}
 use Rattle.pool_trails.specs.Found.{IsPrunedProof}
-use Rattle.pool_trails.specs.Ended.{IsPoolCertified, IsPoolFound, IsPooledInVain, IsPoolSpent, WentForRow}
-use Rattle.pool_trails.specs.Inner.{IsPoolProof, with_best}
+use Rattle.pool_trails.specs.Ended.{IsPoolCertified, IsPoolFound, IsPoolInVain, IsPoolProved, IsPoolSpent, attempts_where}
+use Rattle.pool_trails.specs.Inner.{IsPoolProof}
 use Rattle.pool_trails.specs.Opening.{staying_by, is_uncrowded, opened_of, out_of}
 use Rattle.pool_trails.proofs.LeftOut.{may_leave, out_fits_kinds}
 
@@ -121,11 +124,12 @@ module _ (f : Fingers) (gates : PoolGates) (k : Kinds) (budget : ℕ) (proof : E
       (out_fits_kinds gates.opening f k of_f)
 
   certified : (steps : List Step) → IsFirstOf k (start_of k) (gaps_proved proof.ends) steps
-      → IsPoolCertified k f (row_of k steps) (with_best c (best_with k (gaps_proved proof.ends) steps))
+      → IsPoolCertified k f (row_of k steps) (listing c (best_with k (gaps_proved proof.ends) steps))
   certified steps h = record {
     accepted = record {
       may = subst (λ (out : Option LeftOut). MayLeave out f) (sym out_is) may;
       ends = proof.ends;
+      texts = subst (λ (out : Option LeftOut). AreTexts (staying out f) c.pools) (sym out_is) p.texts;
       lemmas = subst (λ (out : Option LeftOut). AreProved (staying out f) c.pools proof.ends) (sym out_is) accepted;
       passes = (
         k,
@@ -150,9 +154,9 @@ module _ (f : Fingers) (gates : PoolGates) (k : Kinds) (budget : ℕ) (proof : E
 
   -- the first row of as many gaps as are proved
   found_at : (listed : ListedRow) → IsFirstRow k (gaps_proved proof.ends) listed
-      → IsPoolFound gates.opening f budget listed.row (with_best c listed.best)
+      → IsPoolFound gates.opening f budget listed.row (listing c listed.best)
   found_at listed h =
-      subst (λ (z : ListedRow). IsPoolFound gates.opening f budget z.row (with_best c z.best)) (sym h.is)
+      subst (λ (z : ListedRow). IsPoolFound gates.opening f budget z.row (listing c z.best)) (sym h.is)
       (record {
         first = first_least k f (gaps_proved proof.ends) h.steps of_f low h.first;
         certified = (k, of_f, sound, certified h.steps h.first);
@@ -162,49 +166,53 @@ module _ (f : Fingers) (gates : PoolGates) (k : Kinds) (budget : ℕ) (proof : E
         gaps = gaps_are k f (gaps_proved proof.ends) h.steps of_f low h.first;
       })
 
-  spent_is : (proof.left ≡ 0)
-      ⊎ WithKinds f (λ (x : Kinds).
-      WentForRow x (gaps_proved proof.ends + 1) (is_uncrowded others c.pools.order) proof.left (columns_of f))
-      → IsPoolSpent gates.opening f budget c (gaps_proved proof.ends)
-  spent_is work = record {
+  proved_is : IsPoolProved gates.opening f budget c proof (gaps_proved proof.ends)
+  proved_is = record {
     out = out_is;
-    proof = proof;
     lists_none = subst IsNone (sym p.rowless) refl;
+    texts = p.texts;
     accepted = accepted;
     few_ways = p.few_ways;
     best = refl;
     low = low;
     fits = (k, of_f, sound, record { out = out_fits; pools = p.fits });
     searched = p.searched;
-    work = work;
   }
 
   -- the search for lemmas left no units
   lemmas_spent_at : proof.end ≡ ended.Spent → IsPoolSpent gates.opening f budget c (gaps_proved proof.ends)
-  lemmas_spent_at e = spent_is (inl (subst (λ (z : SearchEnd). EndsSo proof.ends proof.left z) e ends_as))
+  lemmas_spent_at e = record {
+    proof = proof;
+    lemmas = proved_is;
+    work = inl (subst (λ (z : SearchEnd). EndsSo proof.ends proof.left z) e ends_as);
+  }
 
-  -- the searches for a row left none
-  row_spent_at : WentForRow k (gaps_proved proof.ends + 1) gates.uncrowded proof.left (columns_left k (start_of k))
+  abbrev Went : Attempts → ℕ → Type 0
+  Went attempts others = WentForRow k attempts (gaps_proved proof.ends + 1) proof.left others
+
+  -- the search for a row left none
+  row_spent_at : Went (attempts_where gates.uncrowded) (columns_left k (start_of k))
       → IsPoolSpent gates.opening f budget c (gaps_proved proof.ends)
-  row_spent_at went = spent_is (inr (
-    k,
-    of_f,
-    sound,
-    subst (λ (twice : Bool). WentForRow k (gaps_proved proof.ends + 1) twice proof.left (columns_of f)) p.none_crowded
-        (subst (λ (n : ℕ). WentForRow k (gaps_proved proof.ends + 1) gates.uncrowded proof.left n)
-        (sym (columns_same f k of_f)) went),
-  ))
+  row_spent_at went = record {
+    proof = proof;
+    lemmas = proved_is;
+    work = inr (
+      k,
+      of_f,
+      sound,
+      subst (λ (uncrowded : Bool). Went (attempts_where uncrowded) (columns_of f)) p.none_crowded
+          (subst (Went (attempts_where gates.uncrowded)) (sym (columns_same f k of_f)) went),
+    );
+  }
 
   -- Every arrangement has more gaps. So not as many as a row can have were proved, and no lemmas prove more.
   in_vain_at : (proof.end ≡ ended.Spent → ⊥) → Need k (start_of k) (gaps_proved proof.ends + 1) →
-      IsPooledInVain gates.opening f
+      IsPoolInVain gates.opening f budget c (gaps_proved proof.ends)
   in_vain_at whole need = record {
-    ends = proof.ends;
-    most = record {
-      order = c.pools.order;
-      is = p.order;
-      most = most_by gates.opening others c.pools.order proof.ends proof.left proof.end ends_as whole few_enough;
-    };
+    proof = proof;
+    lemmas = proved_is;
+    order = p.order;
+    most = most_by gates.opening others c.pools.order proof.ends proof.left proof.end ends_as whole few_enough;
     more = more;
   }
     where
@@ -227,7 +235,7 @@ module _ (f : Fingers) (gates : PoolGates) (k : Kinds) (budget : ℕ) (proof : E
     few_proved = omega (arith, e, few)
 
     pub found_is : (listed : ListedRow) (made : FewerCertificate) → IsFirstRow k proved listed
-        → made ≡ with_best c listed.best → IsPoolFound gates.opening f budget listed.row made
+        → made ≡ listing c listed.best → IsPoolFound gates.opening f budget listed.row made
     found_is listed made h is =
         subst (λ (z : FewerCertificate). IsPoolFound gates.opening f budget listed.row z) (sym is)
         (found_at listed (subst (λ (n : ℕ). IsFirstRow k n listed) e h))
@@ -235,11 +243,14 @@ module _ (f : Fingers) (gates : PoolGates) (k : Kinds) (budget : ℕ) (proof : E
     pub lemmas_spent : proof.end ≡ ended.Spent → IsPoolSpent gates.opening f budget c proved
     lemmas_spent spent = subst (IsPoolSpent gates.opening f budget c) (sym e) (lemmas_spent_at spent)
 
-    pub row_spent : WentForRow k (proved + 1) gates.uncrowded proof.left (columns_left k (start_of k))
+    pub row_spent : WentForRow k (attempts_where gates.uncrowded) (proved + 1) proof.left (columns_left k (start_of k))
         → IsPoolSpent gates.opening f budget c proved
     row_spent went =
         subst (IsPoolSpent gates.opening f budget c) (sym e) (row_spent_at (subst (λ (n : ℕ).
-        WentForRow k (n + 1) gates.uncrowded proof.left (columns_left k (start_of k))) e went))
+        WentForRow k (attempts_where gates.uncrowded) (n + 1) proof.left (columns_left k (start_of k))) e went))
 
-    pub in_vain : (proof.end ≡ ended.Spent → ⊥) → Need k (start_of k) (proved + 1) → IsPooledInVain gates.opening f
-    in_vain whole need = in_vain_at whole (subst (λ (n : ℕ). Need k (start_of k) (n + 1)) e need)
+    pub in_vain : (proof.end ≡ ended.Spent → ⊥) → Need k (start_of k) (proved + 1)
+        → IsPoolInVain gates.opening f budget c proved
+    in_vain whole need =
+        subst (IsPoolInVain gates.opening f budget c) (sym e)
+        (in_vain_at whole (subst (λ (n : ℕ). Need k (start_of k) (n + 1)) e need))

@@ -1,7 +1,6 @@
 pub mod Lists
 pub mod Nets
 pub mod Opened
-pub mod Rows
 pub mod LeftOut
 pub mod Counted
 pub mod Certified

@@ -1,12 +1,16 @@
 -- Lines and lemmas that are equal one by one; and what is read from a text, beside what is written.
 use Rattle.std.specs.Prelude.{ℕ, zero, suc, ◌≡◌, ◌≢◌, ◌+◌, ◌≤◌, ◌<◌, ◌↔◌, Bool, true, false, IsTrue, List, [], ◌∷◌}
-use Rattle.std.specs.Prelude.{◌++◌, codes, length, map, take, Option, None, IfNone, IfOk, Result, Ok, Err}
+use Rattle.std.specs.Prelude.{◌++◌, All, codes, drop, length, map, take, Option, None, IfNone, IfOk, Result, Ok, Err}
 use Rattle.std.proofs.Common.{refl, sym, ap, subst, arith, ◌∙◌, get_or, take_all}
 use Rattle.std.proofs.lemmas.List.{map_more, take_more}
+use Rattle.std.proofs.lemmas.List.Elements.{All-cons, All-nil}
 use Rattle.cell_num.specs.declared.list.NoMemory.{NoMemory}
 use Rattle.row_state.specs.declared.kind.Kinds.{Kinds}
 use Rattle.bound_log.specs.declared.fault.LogFault.{LogFault}
 use Rattle.bound_log.specs.declared.fault.LogFault.TheVariants as because
+use Rattle.cell_num.proofs.Lists.{all_at}
+use Rattle.trail_pools.specs.declared.level.PoolLevel.{PoolLevel}
+use Rattle.trail_pools.specs.declared.pools.Pools.{Pools}
 use Rattle.trail_pools.specs.declared.state.PoolState.{PoolState}
 use Rattle.end_lemmas.specs.declared.lemma.EndLemma.{EndLemma}
 use Rattle.order_log.specs.declared.certificate.OrderCertificate.{OrderCertificate}
@@ -14,8 +18,12 @@ use Rattle.pool_log.specs.declared.lemma.PoolLine.{PoolLine}
 use Rattle.pool_log.specs.Fits.{PoolsFit}
 use Rattle.pool_log.specs.Text.{pool_text}
 use Rattle.pool_check.specs.declared.along.PoolOrder.{PoolOrder}
-use Rattle.pool_certificate.specs.Accepted.{lemmas_along}
+use Rattle.pool_lines.specs.Texts.{IsTextOfState}
+use Rattle.pool_lines.proofs.Texts.{text_back}
+use Rattle.pool_certificate.specs.Accepted.{lemma_listed, lemmas_along}
+use Rattle.pool_certificate.specs.Refusal.{IsFirstOther}
 use Rattle.pool_trails.specs.declared.gates.PoolGates.{PoolGates}
+use Rattle.pool_trails.specs.Found.{line_at}
 use Rattle.pool_trails.specs.Inner.{AreUnlistedAlong, ListAlong, lined}
 
 -- ---- one by one
@@ -78,15 +86,50 @@ module _ (k : Kinds) (along : PoolOrder) (gates : PoolGates) (lemmas : List (End
       → ListAlong along gates lemmas read → ⊥
   other_order read b tells off l = let yes : b ≡ true = tells.1 l.order in cc
 
-  pub lists_tells : (read : OrderCertificate PoolLine) (b : Bool) → read.best ≡ None → read.fill ≡ gates.fill
-      → read.order ≡ gates.order
-      → (IsTrue b ↔ (lemmas_along along.steps.pools along.levels read.lemmas ≡ lemmas))
-      → IsTrue b ↔ ListAlong along gates lemmas read
-  lists_tells read b none fill order tells = (
-    λ yes. record { rowless = none; fill = fill; order = order; listed = tells.0 yes },
-    λ l. tells.1 l.listed,
+  pub other_lemmas : (read : OrderCertificate PoolLine) (b : Bool)
+      → (IsTrue b ↔ (lemmas_along along.steps.pools along.levels read.lemmas ≡ lemmas)) → b ≡ false
+      → ListAlong along gates lemmas read → ⊥
+  other_lemmas read b tells off l = let yes : b ≡ true = tells.1 l.listed in cc
+
+module _ (along : PoolOrder) (gates : PoolGates) (lemmas : List (EndLemma PoolState)) where
+  -- where the gates are these and the lines list the lemmas, the texts decide
+  pub lists_tells : (read : OrderCertificate PoolLine) (r : Result Bool NoMemory) (lines : List PoolLine)
+      → read.best ≡ None → read.fill ≡ gates.fill → read.order ≡ gates.order → lines ≡ read.lemmas
+      → lemmas_along along.steps.pools along.levels lines ≡ lemmas
+      → IfOk r (λ b. IsTrue b ↔ All (IsTextOfState along.steps.pools along.levels) lines)
+      → IfOk r (λ b. IsTrue b ↔ ListAlong along gates lemmas read)
+  lists_tells read (Err e) lines none fill order are listed tells = tt
+  lists_tells read (Ok b) lines none fill order are listed tells = (
+    λ yes. record {
+      rowless = none;
+      fill = fill;
+      order = order;
+      listed = subst (λ (ls : List PoolLine). lemmas_along along.steps.pools along.levels ls ≡ lemmas) are listed;
+      texts = subst (All (IsTextOfState along.steps.pools along.levels)) are (tells.0 yes);
+    },
+    λ l. tells.1 (subst (All (IsTextOfState along.steps.pools along.levels)) (sym are) l.texts),
   )
 
+-- ---- texts of states
+
+module _ (pools : Pools) (levels : List PoolLevel) where
+  -- a line that is none
+  pub no_text : (lines : List PoolLine) (at : ℕ) → IsFirstOther pools levels lines at
+      → All (IsTextOfState pools levels) lines → ⊥
+  no_text lines at h all = h.other (all_at (IsTextOfState pools levels) lines at h.line all h.there)
+
+  -- the lines of lemmas that list these
+  pub texts_of : (lemmas : List (EndLemma PoolState))
+      → map (lemma_listed pools levels) (map (line_at pools) lemmas) ≡ lemmas
+      → All (IsTextOfState pools levels) (map (line_at pools) lemmas)
+  texts_of [] e = All-nil (IsTextOfState pools levels)
+  texts_of (x ∷ xs) e =
+      All-cons (IsTextOfState pools levels) (line_at pools x) (map (line_at pools) xs)
+      (text_back pools levels x.bound x.done x.state (line_at pools x) refl
+      (ap (λ (ls : List (EndLemma PoolState)). (get_or ls 0 x).state) e))
+      (texts_of xs (ap (λ (ls : List (EndLemma PoolState)). drop 1 ls) e))
+
+module _ (k : Kinds) (along : PoolOrder) (gates : PoolGates) (lemmas : List (EndLemma PoolState)) where
   -- the text has too many bytes
   pub text_long : (text : List ℕ) → text ≡ pool_text (codes "cell") (lined along gates lemmas)
       → 1073741824 < length text → AreUnlistedAlong k along gates lemmas

@@ -1,5 +1,5 @@
 -- What is found along the order of the gates, as a certificate.
-use Rattle.std.specs.Prelude.{ℕ, ◌≡◌, ◌≢◌, ◌≤◌, List, [], None, Some, codes, length, map}
+use Rattle.std.specs.Prelude.{ℕ, ◌≡◌, ◌≢◌, ◌≤◌, All, List, [], None, Some, codes, length, map}
 use Rattle.std.proofs.Common.{refl, sym, ap, subst, arith, ◌∙◌}
 use Rattle.std.proofs.lemmas.Option.{none-some}
 use Rattle.cell_num.specs.declared.finger.Fingers.{Fingers}
@@ -30,13 +30,15 @@ use Rattle.pool_check.specs.Accepted.{HasFewWays, first_with_many}
 use Rattle.pool_check.specs.Refusal.{Refuses}
 use Rattle.pool_check.specs.Along.{IsAlong}
 use Rattle.pool_check.specs.Stepping.{pool_steps, steps_of}
-use Rattle.pool_certificate.specs.Accepted.{HasFewWaysOf, lemmas_along, lemmas_of, open_of}
+use Rattle.pool_lines.specs.Texts.{IsTextOfState}
+use Rattle.pool_certificate.specs.Accepted.{AreTexts, HasFewWaysOf, lemmas_along, lemmas_of, open_of}
 use Rattle.pool_trails.specs.declared.found.PoolStop.{PoolStop}
 use Rattle.pool_trails.specs.declared.gates.PoolGates.{PoolGates}
 use Rattle.pool_trails.specs.Ended.{HasManyOpen, IsSearched, IsUnlisted}
 use Rattle.pool_trails.specs.Found.{IsPrunedProof, IsFoundAlong, certificate_of, line_at}
 use Rattle.pool_trails.specs.Inner.{ArePoolGates, AreUnlistedAlong, IsPoolProof, ListAlong, Stops, lined, stop_of}
 use Rattle.pool_trails.specs.Opening.{fill_by, is_uncrowded, opened_of}
+use Rattle.pool_trails.proofs.Lists.{texts_of}
 
 abbrev with_lines : List NetNo → List NetNo → List PoolLine → OrderCertificate PoolLine
 with_lines fill order lines = record { fill = fill; order = order; lemmas = lines; best = None }
@@ -103,10 +105,21 @@ module _ (f : Fingers) (gates : PoolGates) (g : ArePoolGates f gates) where
           (subst (λ (gs : List NetNo). HasFewWays f (opened_of gates.opening f gates.order) gs) (sym l.order)
           a.few_ways)
 
+      texts_same : AreTexts f pools
+      texts_same =
+          subst (λ (o : OpenGates). All (IsTextOfState (pools_of f o) (levels_of f o pools.order)) pools.lemmas)
+          open_same
+          (subst (λ (gs : List NetNo). All (IsTextOfState (pools_of f (opened_of gates.opening f gates.order))
+          (levels_of f (opened_of gates.opening f gates.order) gs)) pools.lemmas) (sym l.order)
+          (subst (λ (ls : List PoolLevel). All (IsTextOfState (pools_of f (opened_of gates.opening f gates.order)) ls)
+          pools.lemmas) a.levels
+          (subst (λ (ps : Pools). All (IsTextOfState ps along.levels) pools.lemmas) a.pools l.texts)))
+
       is_proof : PoolsFit k pools → IsPoolProof f gates k budget proof pools
       is_proof fits = record {
         order = subst (IsOrder f) (sym l.order) g.is;
         few_ways = few_ways;
+        texts = texts_same;
         searched = searched;
         none_crowded = g.none_crowded ∙ ap (is_uncrowded f) (sym l.order);
         rowless = l.rowless;
@@ -138,7 +151,13 @@ module _ (f : Fingers) (gates : PoolGates) (g : ArePoolGates f gates) where
       none = λ few fits same. none
           (subst (λ (c : OrderCertificate PoolLine). length (pool_text (codes "cell") c) ≤ 1073741824) lined_same few)
           (subst (PoolsFit k) lined_same fits)
-          (record { rowless = refl; fill = refl; order = refl; listed = lines_same same });
+          (record {
+            rowless = refl;
+            fill = refl;
+            order = refl;
+            listed = lines_same same;
+            texts = texts_of along.steps.pools along.levels proof.lemmas (lines_same same);
+          });
     }
 
 module _ (f : Fingers) (gates : PoolGates) (g : ArePoolGates f gates) (k : Kinds) (along : PoolOrder) (budget : ℕ)

@@ -1,5 +1,5 @@
 -- How a search ended: with the first least row and its certificate, or with what is proved without a row.
-use Rattle.std.specs.Prelude.{ℕ, ◌≡◌, ◌+◌, ◌-◌, ◌/◌, ◌⊎◌, Bool, true, false, IsTrue, if◌then◌else◌, List, Some, IsNone}
+use Rattle.std.specs.Prelude.{ℕ, ◌≡◌, ◌+◌, ◌⊎◌, Bool, if◌then◌else◌, List, Some, IsNone}
 use Rattle.cell_num.specs.declared.finger.Fingers.{Fingers}
 use Rattle.cell_num.specs.declared.net.NetNo.{NetNo}
 use Rattle.cell_num.specs.Fingers.{columns_of}
@@ -11,7 +11,9 @@ use Rattle.row_search.specs.First.{IsFirstLeast}
 use Rattle.trail_state.specs.Levels.{IsOrder}
 use Rattle.trail_check.specs.Accepted.{IsLow}
 use Rattle.trail_check.specs.Justified.{gaps_proved}
-use Rattle.trail_search.specs.Searched.{AreSearched}
+use Rattle.trail_search.specs.declared.attempts.Attempts.{Attempts}
+use Rattle.trail_search.specs.declared.attempts.Attempts.TheVariants.{InSecondHalf, Never}
+use Rattle.trail_search.specs.Searched.{WentForRow}
 use Rattle.trail_pools.specs.declared.state.PoolState.{PoolState}
 use Rattle.trail_pools.specs.Leveled.{levels_of}
 use Rattle.trail_pools.specs.State.{start}
@@ -25,7 +27,7 @@ use Rattle.fewer_log.specs.declared.certificate.FewerCertificate.{FewerCertifica
 use Rattle.fewer_log.specs.Fits.{FewerFits}
 use Rattle.pool_check.specs.Accepted.{first_with_many}
 use Rattle.pool_check.specs.Stepping.{steps_of}
-use Rattle.pool_certificate.specs.Accepted.{AreProved, HasFewWaysOf, IsAccepted, lemmas_of}
+use Rattle.pool_certificate.specs.Accepted.{AreProved, AreTexts, HasFewWaysOf, IsAccepted, lemmas_of}
 use Rattle.pool_trails.specs.declared.found.PoolStop.{PoolStop}
 use Rattle.pool_trails.specs.declared.found.PoolStop.TheVariants as stopped
 use Rattle.pool_trails.specs.declared.opening.Opening.{Opening}
@@ -57,32 +59,43 @@ pub record IsPoolFound (opening : Opening) (f : Fingers) (budget : ℕ) (row : L
   pub searched : IsSearched opening (staying_by opening f) budget c.pools proof
   pub gaps : gaps_of row ≡ gaps_proved proof.ends
 
--- the units of the first search for a row: half of them, where there is a second one
-abbrev pub first_units : Bool → ℕ → ℕ
-first_units twice units = if twice then units / 2 else units
+-- Attempts to refute states by trails are made only where no gate has too many ways, with half of the units.
+abbrev pub attempts_where : Bool → Attempts
+attempts_where uncrowded = if uncrowded then InSecondHalf else Never
 
--- The units went for a row, in one search or in two. Those of each search, except one of each column, went for bounds
--- of states, and in the second one for attempts to refute states by trails.
-pub record WentForRow (k : Kinds) (most : ℕ) (twice : Bool) (units others : ℕ) : Type 0 where
-  pub first : AreSearched k false most (first_units twice units) others
-  pub second : IsTrue twice → AreSearched k true most (units - first_units twice units) others
-
--- The budget is spent. The certificate lists no row. Its lemmas are accepted, and prove that no arrangement has fewer
--- gaps. A search within the budget found them. It left no units. Or those that it left went for a row with so many
--- gaps. Where no gate is crowded, it was looked for twice.
-pub record IsPoolSpent (opening : Opening) (f : Fingers) (budget : ℕ) (c : FewerCertificate) (proved : ℕ)
-    : Type 0 where
+-- The certificate lists no row. Its lemmas are accepted, and prove that no arrangement has fewer gaps. A search within
+-- the budget found them.
+pub record IsPoolProved (opening : Opening) (f : Fingers) (budget : ℕ) (c : FewerCertificate)
+    (proof : EndProof PoolState) (proved : ℕ) : Type 0 where
   pub out : c.out ≡ out_of opening f
-  pub proof : EndProof PoolState
   pub lists_none : IsNone c.pools.best
+  pub texts : AreTexts (staying_by opening f) c.pools
   pub accepted : AreProved (staying_by opening f) c.pools proof.ends
   pub few_ways : HasFewWaysOf (staying_by opening f) c.pools
   pub best : proved ≡ gaps_proved proof.ends
   pub low : IsLow f proved
   pub fits : WithKinds f (λ k. FewerFits k c)
   pub searched : IsSearched opening (staying_by opening f) budget c.pools proof
+
+-- The budget is spent. The search for lemmas left no units. Or those that it left went for a row with so many gaps.
+pub record IsPoolSpent (opening : Opening) (f : Fingers) (budget : ℕ) (c : FewerCertificate) (proved : ℕ)
+    : Type 0 where
+  pub proof : EndProof PoolState
+  pub lemmas : IsPoolProved opening f budget c proof proved
   pub work : (proof.left ≡ 0) ⊎ WithKinds f (λ k.
-      WentForRow k (proved + 1) (is_uncrowded (staying_by opening f) c.pools.order) proof.left (columns_of f))
+      WentForRow k (attempts_where (is_uncrowded (staying_by opening f) c.pools.order)) (proved + 1) proof.left
+      (columns_of f))
+
+-- Every arrangement has more gaps, and no lemmas over the order of the certificate prove more.
+pub record IsPoolInVain (opening : Opening) (f : Fingers) (budget : ℕ) (c : FewerCertificate) (proved : ℕ)
+    : Type 0 where
+  pub proof : EndProof PoolState
+  pub lemmas : IsPoolProved opening f budget c proof proved
+  pub order : IsOrder (staying_by opening f) c.pools.order
+  pub most : HasFewer (steps_of (staying_by opening f) (opened_of opening (staying_by opening f) c.pools.order))
+      (levels_of (staying_by opening f) (opened_of opening (staying_by opening f) c.pools.order) c.pools.order) start
+      (next_need proof.ends)
+  pub more : IsLow f (proved + 1)
 
 -- for an order of the gates one of them has too many ways, though half columns stay open
 pub record HasManyOpen (opening : Opening) (f : Fingers) : Type 0 where
@@ -90,19 +103,6 @@ pub record HasManyOpen (opening : Opening) (f : Fingers) : Type 0 where
   pub is : IsOrder f order
   pub gate : NetNo
   pub first : first_with_many f (opened_of opening f order) order ≡ Some gate
-
--- For an order of the gates no lemmas on some fingers prove more gaps than so many ends do.
-pub record HasMostEnds (opening : Opening) (f : Fingers) (ends : ℕ) : Type 0 where
-  pub order : List NetNo
-  pub is : IsOrder f order
-  pub most : HasFewer (steps_of f (opened_of opening f order)) (levels_of f (opened_of opening f order) order) start
-      (next_need ends)
-
--- no lemmas prove more gaps than so many ends do, and every arrangement has more
-pub record IsPooledInVain (opening : Opening) (f : Fingers) : Type 0 where
-  pub ends : ℕ
-  pub most : HasMostEnds opening (staying_by opening f) ends
-  pub more : IsLow f (gaps_proved ends + 1)
 
 -- for an order of the gates lemmas were found that no text lists
 pub record IsUnlisted (opening : Opening) (f : Fingers) (k : Kinds) : Type 0 where
@@ -115,11 +115,11 @@ pub record IsUnlisted (opening : Opening) (f : Fingers) (k : Kinds) : Type 0 whe
 
 abbrev pub IsPoolCrowded : Opening → Fingers → Type 0
 IsPoolCrowded opening f =
-    HasManyOpen opening (staying_by opening f)
-    ⊎ (IsPooledInVain opening f ⊎ WithKinds f (IsUnlisted opening (staying_by opening f)))
+    HasManyOpen opening (staying_by opening f) ⊎ WithKinds f (IsUnlisted opening (staying_by opening f))
 
 abbrev pub IsPoolStopped : Opening → Fingers → ℕ → PoolStop → Type 0
 IsPoolStopped opening f budget (stopped.Unfinished certificate proved) =
     IsPoolSpent opening f budget certificate proved
+IsPoolStopped opening f budget (stopped.InVain certificate proved) = IsPoolInVain opening f budget certificate proved
 IsPoolStopped opening f budget stopped.Crowded = IsPoolCrowded opening f
 IsPoolStopped opening f budget stopped.NoMemory = Unit {0}

@@ -1,9 +1,8 @@
 -- What inner contracts cite.
-use Rattle.std.specs.Prelude.{ℕ, ◌≡◌, ◌≤◌, ◌==◌, ◌⊎◌, Bool, List, Some, None, codes, length, map}
+use Rattle.std.specs.Prelude.{ℕ, ◌≡◌, ◌≤◌, ◌==◌, ◌⊎◌, Bool, List, All, None, codes, length, map}
 use Rattle.cell_num.specs.declared.finger.Fingers.{Fingers}
 use Rattle.cell_num.specs.declared.net.NetNo.{NetNo}
 use Rattle.row_state.specs.declared.kind.Kinds.{Kinds}
-use Rattle.bound_log.specs.declared.log.Best.{Best}
 use Rattle.trail_state.specs.Levels.{IsOrder}
 use Rattle.trail_pools.specs.declared.state.PoolState.{PoolState}
 use Rattle.end_lemmas.specs.declared.lemma.EndLemma.{EndLemma}
@@ -15,8 +14,8 @@ use Rattle.pool_log.specs.Text.{pool_text}
 use Rattle.pool_check.specs.declared.along.PoolOrder.{PoolOrder}
 use Rattle.pool_check.specs.declared.refusal.PoolRefusal.{PoolRefusal}
 use Rattle.pool_check.specs.declared.refusal.PoolRefusal.TheVariants as cause
-use Rattle.fewer_log.specs.declared.certificate.FewerCertificate.{FewerCertificate}
-use Rattle.pool_certificate.specs.Accepted.{HasFewWaysOf, lemmas_along}
+use Rattle.pool_lines.specs.Texts.{IsTextOfState}
+use Rattle.pool_certificate.specs.Accepted.{AreTexts, HasFewWaysOf, lemmas_along}
 use Rattle.pool_trails.specs.declared.found.PoolStop.{PoolStop}
 use Rattle.pool_trails.specs.declared.found.PoolStop.TheVariants as stopped
 use Rattle.pool_trails.specs.declared.gates.PoolGates.{PoolGates}
@@ -35,6 +34,7 @@ pub record ArePoolGates (f : Fingers) (gates : PoolGates) : Type 0 where
 -- so it is of a stop that is no lack of memory
 abbrev pub Stops : Type 0 → PoolStop → Type 0
 Stops Says (stopped.Unfinished certificate proved) = ⊥
+Stops Says (stopped.InVain certificate proved) = ⊥
 Stops Says stopped.Crowded = Says
 Stops Says stopped.NoMemory = Unit {0}
 
@@ -55,13 +55,14 @@ lined along gates lemmas = record {
   best = None;
 }
 
--- it is of these gates, lists no row, and its lines list the lemmas
+-- It is of these gates, and lists no row. Its lines list the lemmas, each as the text of its state.
 pub record ListAlong (along : PoolOrder) (gates : PoolGates) (lemmas : List (EndLemma PoolState))
     (pools : OrderCertificate PoolLine) : Type 0 where
   pub rowless : pools.best ≡ None
   pub fill : pools.fill ≡ gates.fill
   pub order : pools.order ≡ gates.order
   pub listed : lemmas_along along.steps.pools along.levels pools.lemmas ≡ lemmas
+  pub texts : All (IsTextOfState along.steps.pools along.levels) pools.lemmas
 
 abbrev pub AreUnlistedAlong : Kinds → PoolOrder → PoolGates → List (EndLemma PoolState) → Type 0
 AreUnlistedAlong k along gates lemmas =
@@ -73,6 +74,7 @@ pub record IsPoolProof (f : Fingers) (gates : PoolGates) (k : Kinds) (budget : �
     (pools : OrderCertificate PoolLine) : Type 0 where
   pub order : IsOrder f pools.order
   pub few_ways : HasFewWaysOf f pools
+  pub texts : AreTexts f pools
   pub searched : IsSearched gates.opening f budget pools proof
   pub none_crowded : gates.uncrowded ≡ is_uncrowded f pools.order
   pub rowless : pools.best ≡ None
@@ -81,10 +83,3 @@ pub record IsPoolProof (f : Fingers) (gates : PoolGates) (k : Kinds) (budget : �
 -- a gate has too many ways, or no text lists the lemmas
 abbrev pub CannotProve : Opening → Fingers → Kinds → Type 0
 CannotProve opening f k = HasManyOpen opening f ⊎ IsUnlisted opening f k
-
--- the certificate with this row
-abbrev pub with_best : FewerCertificate → Best → FewerCertificate
-with_best c best = record {
-  out = c.out;
-  pools = record { fill = c.pools.fill; order = c.pools.order; lemmas = c.pools.lemmas; best = Some best };
-}

@@ -19,8 +19,13 @@ pub enum PoolStop {
         certificate: FewerCertificate,
         proved: u32,
     },
-    /// A gate of the fingers that stay has too many ways, though half columns stay open. Or each arrangement has more
-    /// gaps than lemmas on these fingers prove. Or no text lists the lemmas.
+    /// Each arrangement has more gaps than the `proved` ones of the lemmas of the certificate, which lists no row. No
+    /// lemmas over its order prove more.
+    InVain {
+        certificate: FewerCertificate,
+        proved: u32,
+    },
+    /// A gate of the fingers that stay has too many ways, though half columns stay open. Or no text lists the lemmas.
     Crowded,
     NoMemory,
 }

@@ -5,7 +5,6 @@ ghost use Rattle.pool_trails.specs.Opening.{all_nets, gates_left_out, is_left_ou
 ghost use Rattle.pool_trails.specs.Opening.{other_row, out_of};
 
 use crate::Opening;
-use crate::opening::having_more;
 use cell_num::{Fingers, List, NetNo, NoMemory, Row};
 use fewer_fingers::LeftOut;
 use open_gates::{OpenGates, has_more};
@@ -13,6 +12,7 @@ use pool_check::MOST_CHOICES;
 use std::alloc::{AllocError, Global};
 use trail_log::NetList;
 use trail_pools::has_long_front;
+use trail_search::having_more;
 
 pub(crate) fn other_row(row: Row) -> Row
     ensures { result ≡ other_row row }

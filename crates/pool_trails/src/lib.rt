@@ -7,7 +7,6 @@ mod left_out;
 mod lemmas;
 mod listed;
 mod opening;
-mod row;
 mod search;
 
 pub use found::{PoolFound, PoolStop};

@@ -1,8 +1,9 @@
 // A certificate whose lines list lemmas, as it is read from its text.
-ghost use Rattle.std.specs.Prelude.{◌≡◌, ◌≢◌, ◌↔◌, None, IfNone, IfOk, IfSome, IsTrue, map};
+ghost use Rattle.std.specs.Prelude.{◌≡◌, ◌≢◌, ◌↔◌, All, None, IfNone, IfOk, IfSome, IsTrue, map};
 ghost use Rattle.std.specs.Cmp.Lexicographic.{pointwise};
 ghost use Rattle.pool_certificate.specs.Accepted.{lemma_listed, lemmas_along};
 ghost use Rattle.bound_log.specs.declared.fault.LogFault.TheVariants as because;
+ghost use Rattle.pool_lines.specs.Texts.{IsTextOfState};
 ghost use Rattle.pool_log.specs.Fits.{PoolsFit};
 ghost use Rattle.pool_trails.specs.Found.{line_at};
 ghost use Rattle.pool_trails.specs.Inner.{AreUnlistedAlong, ListAlong, lined, same_net};
@@ -11,6 +12,7 @@ use crate::gates::PoolGates;
 use bound_log::LogFault;
 use cell_num::{MOST_BYTES, NoMemory, copy};
 use end_lemmas::{EndLemma, EndSteps};
+use pool_certificate::first_other;
 use pool_check::PoolOrder;
 use pool_lines::{line_of, state_listed};
 use pool_log::{PoolCertificate, PoolLine, PoolLines, read_pools, write_pools};
@@ -78,6 +80,17 @@ fn are_listed(
     Ok(true)
 }
 
+#[tactic(auto, using(crate::proofs::Rules::texts_rules))]
+fn are_texts(alloc: Global, along: &PoolOrder, lines: &[PoolLine]) -> Result<bool, NoMemory>
+    ensures { IfOk result (λ yes. IsTrue yes ↔
+        All (IsTextOfState along.now.steps.pools along.now.levels) lines.now) }
+{
+    match first_other(alloc, along, lines)? {
+        Some(_) => Ok(false),
+        None => Ok(true),
+    }
+}
+
 fn is_rowless(read: &PoolCertificate) -> bool
     ensures { IsTrue result ↔ (read.now.best ≡ None) }
 {
@@ -97,7 +110,7 @@ fn has_nets(nets: &NetList, others: &NetList) -> bool
     same_nets(nets, others)
 }
 
-// Whether it is of these gates, lists no row, and lists the lemmas.
+// Whether it is of these gates, lists no row, and lists the lemmas, each line as the text of its state.
 #[tactic(auto, using(crate::proofs::Rules::lists_rules))]
 fn lists(
     alloc: Global,
@@ -117,7 +130,11 @@ fn lists(
     if !has_nets(&read.order, &gates.order) {
         return Ok(false);
     }
-    are_listed(alloc, along, read.lemmas.as_slice(), lemmas)
+    let lines = read.lemmas.as_slice();
+    if !are_listed(alloc, along, lines, lemmas)? {
+        return Ok(false);
+    }
+    are_texts(alloc, along, lines)
 }
 
 // The certificate of the gates with the lines of the lemmas.

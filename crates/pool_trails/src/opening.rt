@@ -1,15 +1,14 @@
 // Which gates with half columns are left open.
 ghost use Rattle.std.specs.Prelude.{◌≡◌, IfOk};
-ghost use Rattle.std.specs.List.{filter};
-ghost use Rattle.open_gates.specs.Open.{has_more};
 ghost use Rattle.trail_search.specs.Filling.{opened_gates};
 ghost use Rattle.pool_trails.specs.Opening.{fuller_row, opened_by, row_among};
 
 use crate::left_out::other_row;
 use cell_num::{Fingers, List, NetNo, NoMemory, Row};
-use open_gates::{has_more, row_of};
-use std::alloc::{AllocError, Global};
+use open_gates::row_of;
+use std::alloc::Global;
 use trail_log::NetList;
+use trail_search::having_more;
 
 /// Which gates with half columns are left open; the others are filled.
 #[derive(Clone, Copy, Debug, PartialEq, Eq)]
@@ -42,21 +41,6 @@ fn row_among(fingers: &Fingers, gates: &[NetNo]) -> Row
     } else {
         row_of(fingers, gates)
     }
-}
-
-pub(crate) fn having_more(
-    alloc: Global,
-    row: Row,
-    fingers: &Fingers,
-    order: &[NetNo],
-) -> Result<Vec<NetNo>, AllocError>
-    ensures { IfOk result (λ all. all.items ≡ filter (has_more row fingers.now) order.now) }
-{
-    order
-        .iter()
-        .copied()
-        .filter(|gate| has_more(row, fingers, gate))
-        .collect(alloc)
 }
 
 /// The gates of the order that are left open so, where trail_search leaves these open.

@@ -3,17 +3,15 @@ ghost use Rattle.cell_num.specs.Fingers.{AreFingers};
 ghost use Rattle.row_state.specs.Start.{AreKinds, AreSomeKinds};
 ghost use Rattle.trail_check.specs.Justified.{gaps_proved};
 ghost use Rattle.end_search.specs.declared.proof.SearchEnd.TheVariants as ended;
-ghost use Rattle.pool_trails.specs.Ended.{IsPoolFound, IsPoolStopped};
-ghost use Rattle.pool_trails.specs.Inner.{ArePoolGates, CannotProve, IsPoolProof, Stops, with_best};
+ghost use Rattle.pool_trails.specs.Ended.{IsPoolFound, IsPoolStopped, attempts_where};
+ghost use Rattle.pool_trails.specs.Inner.{ArePoolGates, CannotProve, IsPoolProof, Stops};
 ghost use Rattle.pool_trails.specs.Opening.{staying_by, out_of};
 
 use crate::gates::{PoolGates, along, pool_gates};
 use crate::left_out::out_of;
 use crate::lemmas::lemmas_along;
 use crate::listed::listed;
-use crate::row::row_within;
 use crate::{Opening, PoolFound, PoolStop};
-use bound_log::Best;
 use cell_num::{Fingers, Halt};
 use end_search::{EndProof, SearchEnd};
 use fewer_fingers::staying;
@@ -22,6 +20,7 @@ use pool_log::PoolCertificate;
 use row_state::{Kinds, kinds};
 use std::alloc::Global;
 use trail_pools::PoolState;
+use trail_search::{Attempts, first_row};
 
 /// Lemmas on some fingers, and the certificate that lists them.
 #[derive(Debug, Drop)]
@@ -30,25 +29,21 @@ struct PoolProof {
     pools: PoolCertificate,
 }
 
-fn with_row(certificate: FewerCertificate, best: Best) -> FewerCertificate
-    ensures { result ≡ with_best certificate best }
-{
-    let pools = certificate.pools;
-    FewerCertificate {
-        out: certificate.out,
-        pools: PoolCertificate {
-            fill: pools.fill,
-            order: pools.order,
-            lemmas: pools.lemmas,
-            best: Some(best),
-        },
-    }
-}
-
 fn gaps_proved(ends: u32) -> u32
     ensures { result ≡ gaps_proved ends }
 {
     ends.saturating_sub(1) / 2
+}
+
+// An attempt would list the ways of each gate, also of one that has too many.
+fn attempts(uncrowded: bool) -> Attempts
+    ensures { result ≡ attempts_where uncrowded }
+{
+    if uncrowded {
+        Attempts::InSecondHalf
+    } else {
+        Attempts::Never
+    }
 }
 
 fn is_spent(end: SearchEnd) -> bool
@@ -86,12 +81,16 @@ fn row_of(
             proved,
         });
     }
-    match row_within(alloc, kinds, proved, gates.uncrowded, proof.left) {
+    let attempts = attempts(gates.uncrowded);
+    match first_row(alloc, kinds, proved, attempts, proof.left) {
         Ok(Some(first)) => Ok(PoolFound {
             row: first.row,
-            certificate: with_row(certificate, first.best),
+            certificate: certificate.listing(first.best),
         }),
-        Ok(None) => Err(PoolStop::Crowded),
+        Ok(None) => Err(PoolStop::InVain {
+            certificate,
+            proved,
+        }),
         Err(Halt::Spent) => Err(PoolStop::Unfinished {
             certificate,
             proved,
@@ -128,8 +127,9 @@ fn proof_along(
 /// `opening` says. Lemmas on the fingers that stay are looked for first, by `search_pools`. Those that nothing rests on
 /// are not listed. Then a row of all fingers with as many gaps as they prove is looked for, with the units that are
 /// left. Where no gate of the fingers that stay has too many ways to be filled, half of these go for a search that
-/// tries no trails at the states of a row; where it spends them, the others go for a search that does. Else all go for
-/// the first. It ends without a row where a gate has too many ways even so, or where each arrangement has more gaps.
+/// tries no trails at the states of a row; where it spends them, the others go for a search that does, and that goes on
+/// with the bounds that the first one found. Else all go for the first. It ends without a row where a gate has too many
+/// ways even so, or where each arrangement has more gaps.
 pub fn search_pool_row(
     alloc: Global,
     fingers: &Fingers,

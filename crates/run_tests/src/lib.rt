@@ -14,6 +14,8 @@ mod cells;
 #[cfg(test)]
 mod channels;
 #[cfg(test)]
+mod crowded_gates;
+#[cfg(test)]
 mod damaged;
 #[cfg(test)]
 mod desks;

@@ -49,7 +49,7 @@ fn is_judged(alloc: Global, parts: &[&str], status: Status, said: &[&str]) -> Re
 }
 
 // The parts of a damaged certificate, and why it is refused. The text of version 1 has no balances.
-const REFUSED: [([&str; 4], &str); 7] = [
+const REFUSED: [([&str; 4], &str); 8] = [
     (["cellgen-trails 4\n", FIRST, OTHERS, ROW], "Version"),
     (
         [
@@ -67,6 +67,10 @@ const REFUSED: [([&str; 4], &str); 7] = [
     (
         [HEAD, "lemma 3 1 4.2,5.4 4+1,5-1 4.*+5.*\n", OTHERS, ROW],
         "Unproved line 7",
+    ),
+    (
+        [HEAD, "lemma 3 1 4.2,5.4 4-1,5-1 4.*+5.*,6.6\n", OTHERS, ROW],
+        "Line line 5",
     ),
     (
         [HEAD, "lemma 5 1 4.2,5.4 4-1,5-1 4.*+5.*\n", OTHERS, ROW],

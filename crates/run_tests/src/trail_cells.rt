@@ -123,53 +123,6 @@ fn ends_so(
     ends(alloc, words, &inputs([tech, spice, ""]), &[], &end)
 }
 
-// The report names such a gate, and no file is made.
-const CROWDED: End = End {
-    status: Status::Unfinished,
-    said: Said::Whole(&["status 6 unfinished\ngate g\n"]),
-    files: &[
-        ("out.ctrail", Left::Nothing),
-        ("out.clog", Left::Nothing),
-        ("out.gds", Left::Nothing),
-        ("out.lef", Left::Nothing),
-    ],
-};
-
-// A check looks at such a gate before the lemmas and the row.
-const CROWDED_TRAILS: &str = "cellgen-trails 1\ncell many\nfill -\norder 0\nopen\nend\n";
-
-const REFUSED: End = End {
-    status: Status::Rejected,
-    said: Said::Whole(&["status 7 rejected\ntrails Choices gate g\n"]),
-    files: &[],
-};
-
-// A gate of seven different fingers over seven: after its fifth column 7! / 2! * 2^5 = 80,640 ways to pair them. P
-// fingers follow each other three and four in a row, N fingers two and five. So each row alone has one gap, and both
-// have two.
-fn put_crowded(alloc: Global, text: &mut String) -> Result<(), Fail> {
-    text.push_str(".SUBCKT many g vdd gnd\n")?;
-    for at in 0..7u32 {
-        let (p, n) = (at + u32::from(at > 2), at + u32::from(at > 1));
-        let (q, m) = (p + 1, n + 1);
-        let pair = format!(in alloc;
-            "MP{at} p{p} g p{q} vdd p W=3u L=0.6u\nMN{at} n{n} g n{m} gnd n W=3u L=0.6u\n"
-        )?;
-        text.push_str(pair.as_str())?;
-    }
-    Ok(text.push_str(".ENDS\n")?)
-}
-
-// Whether a call over that cell ends so.
-fn is_crowded(alloc: Global, words: &str, end: &End) -> Result<bool, Fail> {
-    let mut spice = String::new(alloc);
-    put_crowded(alloc, &mut spice)?;
-    let given = inputs(["", &spice, CROWDED_TRAILS]);
-    let is = ends(alloc, words, &given, &[], end);
-    drop(spice);
-    is
-}
-
 #[test]
 fn makes_the_certificate_alone(rt: HostRuntime) -> Result<(), Fail> {
     for (tech, spice, words, status, said, trails) in &UNDRAWN {
@@ -178,20 +131,6 @@ fn makes_the_certificate_alone(rt: HostRuntime) -> Result<(), Fail> {
             "{said}"
         );
     }
-    Ok(())
-}
-
-#[test]
-fn makes_nothing_of_a_crowded_gate(rt: HostRuntime) -> Result<(), Fail> {
-    let words = "make - c.sp many out --trails";
-    assert!(rt; is_crowded(rt.alloc(), words, &CROWDED)?);
-    Ok(())
-}
-
-#[test]
-fn checks_up_to_a_crowded_gate(rt: HostRuntime) -> Result<(), Fail> {
-    let words = "check - c.sp many l.clog --trails";
-    assert!(rt; is_crowded(rt.alloc(), words, &REFUSED)?);
     Ok(())
 }
 

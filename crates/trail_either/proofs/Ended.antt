@@ -8,12 +8,12 @@ use Rattle.row_model.specs.declared.column.Column.{Column}
 use Rattle.log_check.specs.Accepted.{WithKinds}
 use Rattle.trail_log.specs.declared.trails.TrailCertificate.{TrailCertificate}
 use Rattle.fewer_log.specs.declared.certificate.FewerCertificate.{FewerCertificate}
-use Rattle.trail_search.specs.Ended.{IsCertified, IsTrailFound, IsTrailSpent}
+use Rattle.trail_search.specs.Ended.{IsCertified, IsTrailFound}
 use Rattle.trail_search.specs.Filling.{is_uneven, uneven_gates}
 use Rattle.pool_trails.specs.declared.opening.Opening.{Opening}
-use Rattle.pool_trails.specs.Ended.{IsPoolCertified, IsPoolFound, IsPoolSpent}
+use Rattle.pool_trails.specs.Ended.{IsPoolCertified, IsPoolFound}
 use Rattle.trail_either.specs.declared.evidence.TrailEvidence.TheVariants.{Filled, Pools}
-use Rattle.trail_either.specs.Ended.{EndsLonger, HasHalfColumns, IsEitherCertified, IsEitherFound, IsEitherSpent, IsNext}
+use Rattle.trail_either.specs.Ended.{EndsLonger, HasHalfColumns, IsEitherCertified, IsEitherFound, IsNext}
 
 filled_certified : (f : Fingers) (row : List Column) (trails : TrailCertificate) →
     WithKinds f (λ k. IsCertified k f row trails) → WithKinds f (λ k. IsEitherCertified k f row (Filled trails))
@@ -25,33 +25,18 @@ pools_certified : (f : Fingers) (row : List Column) (c : FewerCertificate) →
 pools_certified f row c (k, of_k, some_k, is) =
     (k, of_k, some_k, record { accepted = is.accepted; few_ways = is.few_ways; lists = is.lists; fits = is.fits })
 
-module _ (f : Fingers) (budget : ℕ) (row : List Column) where
-  pub filled_found : (trails : TrailCertificate) → EndsLonger f → IsTrailFound f budget row trails
+module _ (f : Fingers) (budget : ℕ) (row : List Column) (most : ℕ) where
+  pub filled_found : (trails : TrailCertificate) → EndsLonger f budget most → IsTrailFound f budget row trails
       → IsEitherFound f budget row (Filled trails)
   filled_found trails ends is =
-      record { first = is.first; certified = filled_certified f row trails is.certified; within = (ends, is) }
+      record { first = is.first; certified = filled_certified f row trails is.certified; within = (most, ends, is) }
 
-  pub pools_found : (c : FewerCertificate) (opening : Opening) → IsNext f opening → IsPoolFound opening f budget row c
-      → IsEitherFound f budget row (Pools c)
+  pub pools_found : (c : FewerCertificate) (opening : Opening) → IsNext f budget most opening
+      → IsPoolFound opening f budget row c → IsEitherFound f budget row (Pools c)
   pools_found c opening next is = record {
     first = is.first;
     certified = pools_certified f row c is.certified;
-    within = (opening, next, is);
-  }
-
-module _ (f : Fingers) (budget proved : ℕ) where
-  pub filled_spent : (trails : TrailCertificate) → EndsLonger f → IsTrailSpent f budget trails proved
-      → IsEitherSpent f budget (Filled trails) proved
-  filled_spent trails ends is =
-      record { lists_none = is.lists_none; low = is.low; fits = is.fits; within = (ends, is) }
-
-  pub pools_spent : (c : FewerCertificate) (opening : Opening) → IsNext f opening
-      → IsPoolSpent opening f budget c proved → IsEitherSpent f budget (Pools c) proved
-  pools_spent c opening next is = record {
-    lists_none = is.lists_none;
-    low = is.low;
-    fits = is.fits;
-    within = (opening, next, is);
+    within = (most, opening, next, is);
   }
 
 abbrev net_of : ℕ → NetNo

@@ -41,6 +41,7 @@ accepted_with f k (Filled trails) gaps best of_k some_k accepted each = record {
         (k, of_k, some_k, each (least_gaps f trails) (for_kinds f j (λ kinds. BestPasses kinds f (least_gaps f trails) trails.best gaps) of_j some_j there k of_k some_k))
 accepted_with f k (Pools c) gaps best of_k some_k accepted each = record {
   may = accepted.may;
+  texts = accepted.texts;
   ends = accepted.ends;
   lemmas = accepted.lemmas;
   passes = passed accepted.passes;

@@ -4,9 +4,8 @@ use Rattle.row_state.specs.declared.kind.Kinds.{Kinds}
 use Rattle.bound_log.specs.declared.log.Best.{Best}
 use Rattle.trail_log.specs.Fits.{TrailsFit}
 use Rattle.trail_log.specs.Text.{trails_text}
-use Rattle.order_log.specs.declared.certificate.OrderCertificate.{OrderCertificate}
-use Rattle.pool_log.specs.declared.lemma.PoolLine.{PoolLine}
 use Rattle.fewer_log.specs.Fits.{FewerFits}
+use Rattle.fewer_log.specs.Listing.{listing}
 use Rattle.fewer_log.specs.Text.{fewer_text}
 use Rattle.trail_either.specs.declared.evidence.TrailEvidence.{TrailEvidence}
 use Rattle.trail_either.specs.declared.evidence.TrailEvidence.TheVariants.{Filled, Pools}
@@ -25,15 +24,11 @@ abbrev pub best_in : TrailEvidence → Option Best
 best_in (Filled trails) = trails.best
 best_in (Pools c) = c.pools.best
 
-abbrev pub pools_with : OrderCertificate PoolLine → Best → OrderCertificate PoolLine
-pools_with pools best =
-    record { fill = pools.fill; order = pools.order; lemmas = pools.lemmas; best = Some best }
-
 -- the same with this row in place of its own
 abbrev pub either_listing : TrailEvidence → Best → TrailEvidence
 either_listing (Filled trails) best =
     Filled (record { fill = trails.fill; order = trails.order; lemmas = trails.lemmas; best = Some best })
-either_listing (Pools c) best = Pools (record { out = c.out; pools = pools_with c.pools best })
+either_listing (Pools c) best = Pools (listing c best)
 
 -- a text can hold it
 abbrev pub EitherFits : Kinds → TrailEvidence → Type 0

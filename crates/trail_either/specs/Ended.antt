@@ -1,5 +1,5 @@
 -- How a search ended: with the first least row and its certificate, or with what is proved without a row.
-use Rattle.std.specs.Prelude.{ℕ, ◌≡◌, ◌≢◌, ◌⊎◌, List, [], IsNone}
+use Rattle.std.specs.Prelude.{ℕ, ◌≡◌, ◌≢◌, ◌≤◌, ◌⊎◌, List, [], IsNone}
 use Rattle.cell_num.specs.declared.finger.Fingers.{Fingers}
 use Rattle.cell_num.specs.declared.finger.Row.TheVariants.{P, N}
 use Rattle.cell_num.specs.declared.net.NetNo.{NetNo}
@@ -11,9 +11,10 @@ use Rattle.row_search.specs.First.{IsFirstLeast}
 use Rattle.trail_check.specs.Accepted.{IsLow}
 use Rattle.trail_search.specs.Ended.{IsCrowded, IsTrailFound, IsTrailSpent}
 use Rattle.trail_search.specs.Filling.{uneven_gates}
+use Rattle.fewer_log.specs.declared.certificate.FewerCertificate.{FewerCertificate}
 use Rattle.pool_trails.specs.declared.opening.Opening.{Opening}
 use Rattle.pool_trails.specs.declared.opening.Opening.TheVariants.{Crowded, Longer, Without}
-use Rattle.pool_trails.specs.Ended.{IsPoolCrowded, IsPoolFound, IsPoolSpent}
+use Rattle.pool_trails.specs.Ended.{IsPoolCrowded, IsPoolFound, IsPoolInVain, IsPoolSpent}
 use Rattle.trail_either.specs.declared.evidence.TrailEvidence.{TrailEvidence}
 use Rattle.trail_either.specs.declared.evidence.TrailEvidence.TheVariants.{Filled, Pools}
 use Rattle.trail_either.specs.declared.found.EitherFound.{EitherFound}
@@ -34,28 +35,38 @@ pub record IsEitherCertified (k : Kinds) (f : Fingers) (row : List Column) (evid
 abbrev pub HasHalfColumns : Fingers → Type 0
 HasHalfColumns f = uneven_gates f ≢ []
 
--- No gate has half columns; or a search that leaves open those of one row ends without a row, for a cause of its own.
-abbrev pub EndsLonger : Fingers → Type 0
-EndsLonger f = (uneven_gates f ≡ []) ⊎ IsPoolCrowded Longer f
+-- A search with pools ends without a row though its budget is not spent. It proves some number of gaps, at most `most`,
+-- but every arrangement has more. Or no lemmas can be listed.
+abbrev pub EndsBelow : Fingers → ℕ → ℕ → Opening → Type 0
+EndsBelow f budget most opening =
+    IsPoolCrowded opening f
+    ⊎ ((c : FewerCertificate) × (proved : ℕ) × (proved ≤ most) × IsPoolInVain opening f budget c proved)
+
+-- No gate has half columns; or a search that leaves open those of one row ends so.
+abbrev pub EndsLonger : Fingers → ℕ → ℕ → Type 0
+EndsLonger f budget most = (uneven_gates f ≡ []) ⊎ EndsBelow f budget most Longer
 
 -- so it is, and a search for a certificate of version 1 ends at some gate, without a row
-pub record EndsAtGate (f : Fingers) : Type 0 where
-  pub longer : EndsLonger f
+pub record EndsAtGate (f : Fingers) (budget most : ℕ) : Type 0 where
+  pub longer : EndsLonger f budget most
   pub gate : NetNo
   pub filled : IsCrowded f gate
 
--- When a search with pools comes, by what it leaves open: where those before it end without a row.
-abbrev pub IsNext : Fingers → Opening → Type 0
-IsNext f Longer = HasHalfColumns f
-IsNext f Crowded = EndsAtGate f
-IsNext f (Without N) = EndsAtGate f × IsPoolCrowded Crowded f
-IsNext f (Without P) = EndsAtGate f × IsPoolCrowded Crowded f × IsPoolCrowded (Without N) f
+-- When a search with pools comes, by what it leaves open: where those before it end without a row, and those with pools
+-- prove at most so many gaps.
+abbrev pub IsNext : Fingers → ℕ → ℕ → Opening → Type 0
+IsNext f budget most Longer = HasHalfColumns f
+IsNext f budget most Crowded = EndsAtGate f budget most
+IsNext f budget most (Without N) = EndsAtGate f budget most × EndsBelow f budget most Crowded
+IsNext f budget most (Without P) =
+    EndsAtGate f budget most × EndsBelow f budget most Crowded × EndsBelow f budget most (Without N)
 
 -- A search within the budget found it.
 abbrev pub IsFoundWithin : Fingers → ℕ → List Column → TrailEvidence → Type 0
-IsFoundWithin f budget row (Filled trails) = EndsLonger f × IsTrailFound f budget row trails
+IsFoundWithin f budget row (Filled trails) =
+    (most : ℕ) × EndsLonger f budget most × IsTrailFound f budget row trails
 IsFoundWithin f budget row (Pools c) =
-    (opening : Opening) × IsNext f opening × IsPoolFound opening f budget row c
+    (most : ℕ) × (opening : Opening) × IsNext f budget most opening × IsPoolFound opening f budget row c
 
 -- the row is the first least one, and is certified by what a search found
 pub record IsEitherFound (f : Fingers) (budget : ℕ) (row : List Column) (evidence : TrailEvidence) : Type 0 where
@@ -63,22 +74,41 @@ pub record IsEitherFound (f : Fingers) (budget : ℕ) (row : List Column) (evide
   pub certified : WithKinds f (λ k. IsEitherCertified k f row evidence)
   pub within : IsFoundWithin f budget row evidence
 
--- the budget was spent so by one of these searches
-abbrev pub IsSpentWithin : Fingers → ℕ → TrailEvidence → ℕ → Type 0
-IsSpentWithin f budget (Filled trails) proved = EndsLonger f × IsTrailSpent f budget trails proved
-IsSpentWithin f budget (Pools c) proved =
-    (opening : Opening) × IsNext f opening × IsPoolSpent opening f budget c proved
+-- One of these searches spent the budget so. Those with pools before it prove at most `most` gaps.
+abbrev pub IsSpentWithin : Fingers → ℕ → ℕ → TrailEvidence → ℕ → Type 0
+IsSpentWithin f budget most (Filled trails) proved =
+    EndsLonger f budget most × IsTrailSpent f budget trails proved
+IsSpentWithin f budget most (Pools c) proved =
+    (opening : Opening) × IsNext f budget most opening × IsPoolSpent opening f budget c proved
 
--- The budget is spent. The certificate lists no row, and its lemmas prove that no arrangement has fewer gaps.
-pub record IsEitherSpent (f : Fingers) (budget : ℕ) (evidence : TrailEvidence) (proved : ℕ) : Type 0 where
+-- a search with pools proved so many gaps, though every arrangement has more
+abbrev pub IsVain : Fingers → ℕ → TrailEvidence → ℕ → Type 0
+IsVain f budget (Filled trails) proved = ⊥
+IsVain f budget (Pools c) proved =
+    (opening : Opening) × IsNext f budget proved opening × IsPoolInVain opening f budget c proved
+
+-- each search ends without a row and with units left, and those with pools prove at most so many gaps
+abbrev pub AllEndBelow : Fingers → ℕ → ℕ → Type 0
+AllEndBelow f budget most = IsNext f budget most (Without P) × EndsBelow f budget most (Without P)
+
+-- a search spent the budget, and proves at most so many gaps, as those with pools before it do
+abbrev pub IsSpentBelow : Fingers → ℕ → ℕ → Type 0
+IsSpentBelow f budget most =
+    (evidence : TrailEvidence) × (proved : ℕ) × (proved ≤ most) × IsSpentWithin f budget most evidence proved
+
+-- The certificate lists no row, and its lemmas prove that no arrangement has fewer gaps. No search with pools proved
+-- more. A search spent the budget and proved this. Or one with pools did, in vain, and a later one spent the budget and
+-- proves no more, or no search spent it.
+pub record IsEitherOpen (f : Fingers) (budget : ℕ) (evidence : TrailEvidence) (proved : ℕ) : Type 0 where
   pub lists_none : IsNone (best_in evidence)
   pub low : IsLow f proved
   pub fits : WithKinds f (λ k. EitherFits k evidence)
-  pub within : IsSpentWithin f budget evidence proved
+  pub within : IsSpentWithin f budget proved evidence proved
+      ⊎ (IsVain f budget evidence proved × (IsSpentBelow f budget proved ⊎ AllEndBelow f budget proved))
 
--- A search for a certificate of version 1 ends at the gate. Those with pools before and after it end without a row.
+-- A search for a certificate of version 1 ends at the gate. Those with pools before and after it can list no lemmas.
 pub record IsEitherCrowded (f : Fingers) (gate : NetNo) : Type 0 where
-  pub longer : EndsLonger f
+  pub longer : (uneven_gates f ≡ []) ⊎ IsPoolCrowded Longer f
   pub filled : IsCrowded f gate
   pub crowded : IsPoolCrowded Crowded f
   pub without_n : IsPoolCrowded (Without N) f
@@ -88,6 +118,6 @@ abbrev pub IsFound : Fingers → ℕ → EitherFound → Type 0
 IsFound f budget found = IsEitherFound f budget found.row found.evidence
 
 abbrev pub Stops : Fingers → ℕ → EitherStop → Type 0
-Stops f budget (stopped.Unfinished evidence proved) = IsEitherSpent f budget evidence proved
+Stops f budget (stopped.Unfinished evidence proved) = IsEitherOpen f budget evidence proved
 Stops f budget (stopped.Choices gate) = IsEitherCrowded f gate
 Stops f budget stopped.NoMemory = Unit {0}

@@ -3,3 +3,5 @@ pub mod Accepted
 pub mod Either
 pub mod Ended
 pub mod Reading
+-- What inner contracts cite.
+pub mod Ends

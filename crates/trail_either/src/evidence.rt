@@ -1,10 +1,9 @@
 ghost use Rattle.std.specs.Prelude.{◌≡◌};
-ghost use Rattle.trail_either.specs.Either.{best_in, either_listing, fill_count, lemma_count, pools_with};
-ghost use Rattle.trail_either.specs.declared.evidence.TrailEvidence.TheVariants.{Filled, Pools};
+ghost use Rattle.trail_either.specs.Either.{best_in, either_listing, fill_count, lemma_count};
+ghost use Rattle.trail_either.specs.declared.evidence.TrailEvidence.TheVariants.{Filled};
 
 use bound_log::Best;
 use fewer_log::FewerCertificate;
-use pool_log::PoolCertificate;
 use trail_log::TrailCertificate;
 
 /// A certificate by trails.
@@ -32,33 +31,6 @@ fn filled_listing(trails: TrailCertificate, best: Best) -> TrailEvidence
         order,
         lemmas,
         best: Some(best),
-    })
-}
-
-fn pools_with(pools: PoolCertificate, best: Best) -> PoolCertificate
-    ensures { result ≡ pools_with pools best }
-{
-    let PoolCertificate {
-        fill,
-        order,
-        lemmas,
-        best: own,
-    } = pools;
-    drop(own);
-    PoolCertificate {
-        fill,
-        order,
-        lemmas,
-        best: Some(best),
-    }
-}
-
-fn pools_listing(certificate: FewerCertificate, best: Best) -> TrailEvidence
-    ensures { result ≡ either_listing (Pools certificate) best }
-{
-    TrailEvidence::Pools(FewerCertificate {
-        out: certificate.out,
-        pools: pools_with(certificate.pools, best),
     })
 }
 
@@ -99,7 +71,7 @@ impl TrailEvidence {
     {
         match self {
             TrailEvidence::Filled(trails) => filled_listing(trails, best),
-            TrailEvidence::Pools(certificate) => pools_listing(certificate, best),
+            TrailEvidence::Pools(certificate) => TrailEvidence::Pools(certificate.listing(best)),
         }
     }
 }

@@ -13,13 +13,13 @@ pub struct EitherFound {
 /// Why a search ended without a row.
 #[derive(Debug, Drop)]
 pub enum EitherStop {
-    /// The budget is spent. The lemmas of the certificate, which lists no row, prove that each arrangement has at least
-    /// `proved` gaps.
+    /// The lemmas of the certificate, which lists no row, prove that each arrangement has at least `proved` gaps. The
+    /// budget is spent. Or no search spent it, each arrangement has more gaps, and lemmas prove no more.
     Unfinished {
         evidence: TrailEvidence,
         proved: u32,
     },
-    /// The gate at which a search for a certificate of version 1 ends, where no row is found with pools either.
+    /// The gate at which a search for a certificate of version 1 ends, where no search with pools could list lemmas.
     Choices {
         gate: NetNo,
     },

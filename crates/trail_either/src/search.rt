@@ -1,23 +1,17 @@
-ghost use Rattle.std.specs.Prelude.{◌≡◌, IfErr, IfNone, IfOk, IfSome};
+ghost use Rattle.std.specs.Prelude.{◌≡◌, IfErr, IfOk};
 ghost use Rattle.std.specs.List.{list_any, range_with_len};
 ghost use Rattle.cell_num.specs.Fingers.{AreFingers};
 ghost use Rattle.trail_search.specs.Ended.{IsCrowded};
 ghost use Rattle.trail_search.specs.Filling.{is_uneven};
-ghost use Rattle.pool_trails.specs.Ended.{IsPoolCrowded};
-ghost use Rattle.trail_either.specs.Ended.{EndsLonger, IsFound, IsNext, Stops};
+ghost use Rattle.trail_either.specs.Ended.{IsFound, Stops};
+ghost use Rattle.trail_either.specs.Ends.{IsBest, IsPoolsEnd, LongerBy, NextBy, better, spent_with, told, without_row};
 
 use crate::{EitherFound, EitherStop, TrailEvidence};
 use cell_num::{Fingers, NetNo, Row};
+use fewer_log::FewerCertificate;
 use pool_trails::{Opening, PoolStop, search_pool_row};
 use std::alloc::Global;
-use trail_search::{TrailStop, search_trails};
-use trail_state::count_on;
-
-fn is_uneven(fingers: &Fingers, gate: u32) -> bool
-    ensures { result ≡ is_uneven fingers.now gate }
-{
-    count_on(fingers.p.as_slice(), gate) != count_on(fingers.n.as_slice(), gate)
-}
+use trail_search::{TrailStop, is_uneven, search_trails};
 
 fn has_half_columns(fingers: &Fingers) -> bool
     ensures { result ≡ list_any (is_uneven fingers.now) (range_with_len 0 fingers.now.nets) }
@@ -25,36 +19,121 @@ fn has_half_columns(fingers: &Fingers) -> bool
     (0..fingers.nets).any(|gate| is_uneven(fingers, gate))
 }
 
-// A search with pools: its row; or none, where it ends without a row for a cause of its own.
-#[tactic(auto, using(crate::proofs::Ended::pools_found, crate::proofs::Ended::pools_spent))]
+/// A certificate with pools that lists no row. Each arrangement has more gaps than the `proved` ones.
+#[derive(Drop)]
+pub(crate) struct InVain {
+    certificate: FewerCertificate,
+    proved: u32,
+}
+
+/// How a search with pools ended that did not spend its budget.
+#[derive(Drop)]
+enum PoolsEnd {
+    Found(EitherFound),
+    /// Without a row. The best of what this search and those before it proved.
+    NoRow(Option<InVain>),
+}
+
+// The one that proves more gaps, the first of equal ones.
+fn better(one: Option<InVain>, other: Option<InVain>) -> Option<InVain>
+    ensures { result ≡ better one other }
+{
+    match (one, other) {
+        (Some(one), Some(other)) => {
+            if one.proved < other.proved {
+                Some(other)
+            } else {
+                Some(one)
+            }
+        }
+        (Some(one), None) => Some(one),
+        (None, other) => other,
+    }
+}
+
+fn told(vain: InVain) -> EitherStop
+    ensures { result ≡ told vain }
+{
+    EitherStop::Unfinished {
+        evidence: TrailEvidence::Pools(vain.certificate),
+        proved: vain.proved,
+    }
+}
+
+// What a search proves that spent the budget, or the best of before where that is more.
+fn spent(best: Option<InVain>, evidence: TrailEvidence, proved: u32) -> EitherStop
+    ensures { result ≡ spent_with best evidence proved }
+{
+    match best {
+        Some(vain) => {
+            if proved < vain.proved {
+                drop(evidence);
+                told(vain)
+            } else {
+                drop(vain);
+                EitherStop::Unfinished { evidence, proved }
+            }
+        }
+        None => EitherStop::Unfinished { evidence, proved },
+    }
+}
+
+// The best of what searches with pools proved in vain, or the gate.
+fn without_row(gate: NetNo, best: Option<InVain>) -> EitherStop
+    ensures { result ≡ without_row gate best }
+{
+    match best {
+        Some(vain) => told(vain),
+        None => EitherStop::Choices { gate },
+    }
+}
+
+// A search with pools. Where it spends the budget, that is the end.
+#[tactic(auto, using(crate::proofs::Rules::pools_rules))]
 fn search_pools(
     alloc: Global,
     fingers: &Fingers,
     opening: Opening,
     budget: u64,
-) -> Result<Option<EitherFound>, EitherStop>
+    best: Option<InVain>,
+) -> Result<PoolsEnd, EitherStop>
     requires fingers { AreFingers fingers.now }
-    requires next { IsNext fingers.now opening }
-    ensures found { IfOk result (λ r. IfSome r (IsFound fingers.now budget)) }
-    ensures ended { IfOk result (λ r. IfNone r (IsPoolCrowded opening fingers.now)) }
+    requires next { NextBy fingers.now budget best opening }
+    requires best { IsBest fingers.now budget best }
+    ensures ended { IfOk result (IsPoolsEnd fingers.now budget opening) }
     ensures stopped { IfErr result (Stops fingers.now budget) }
 {
     match search_pool_row(alloc, fingers, opening, budget) {
-        Ok(found) => Ok(Some(EitherFound {
-            row: found.row,
-            evidence: TrailEvidence::Pools(found.certificate),
-        })),
+        Ok(found) => {
+            drop(best);
+            Ok(PoolsEnd::Found(EitherFound {
+                row: found.row,
+                evidence: TrailEvidence::Pools(found.certificate),
+            }))
+        }
         Err(
             PoolStop::Unfinished {
                 certificate,
                 proved,
             },
-        ) => Err(EitherStop::Unfinished {
-            evidence: TrailEvidence::Pools(certificate),
-            proved,
-        }),
-        Err(PoolStop::Crowded) => Ok(None),
-        Err(PoolStop::NoMemory) => Err(EitherStop::NoMemory),
+        ) => Err(spent(best, TrailEvidence::Pools(certificate), proved)),
+        Err(
+            PoolStop::InVain {
+                certificate,
+                proved,
+            },
+        ) => {
+            let vain = InVain {
+                certificate,
+                proved,
+            };
+            Ok(PoolsEnd::NoRow(better(best, Some(vain))))
+        }
+        Err(PoolStop::Crowded) => Ok(PoolsEnd::NoRow(best)),
+        Err(PoolStop::NoMemory) => {
+            drop(best);
+            Err(EitherStop::NoMemory)
+        }
     }
 }
 
@@ -65,44 +144,59 @@ fn search_crowded(
     fingers: &Fingers,
     budget: u64,
     gate: NetNo,
+    best: Option<InVain>,
 ) -> Result<EitherFound, EitherStop>
     requires fingers { AreFingers fingers.now }
-    requires longer { EndsLonger fingers.now }
+    requires longer { LongerBy fingers.now budget best }
+    requires best { IsBest fingers.now budget best }
     requires gate { IsCrowded fingers.now gate }
     ensures found { IfOk result (IsFound fingers.now budget) }
     ensures stopped { IfErr result (Stops fingers.now budget) }
 {
-    if let Some(found) = search_pools(alloc, fingers, Opening::Crowded, budget)? {
-        return Ok(found);
-    }
-    if let Some(found) = search_pools(alloc, fingers, Opening::Without(Row::N), budget)? {
-        return Ok(found);
-    }
-    match search_pools(alloc, fingers, Opening::Without(Row::P), budget)? {
-        Some(found) => Ok(found),
-        None => Err(EitherStop::Choices { gate }),
+    let best = match search_pools(alloc, fingers, Opening::Crowded, budget, best)? {
+        PoolsEnd::Found(found) => return Ok(found),
+        PoolsEnd::NoRow(best) => best,
+    };
+    let best = match search_pools(alloc, fingers, Opening::Without(Row::N), budget, best)? {
+        PoolsEnd::Found(found) => return Ok(found),
+        PoolsEnd::NoRow(best) => best,
+    };
+    match search_pools(alloc, fingers, Opening::Without(Row::P), budget, best)? {
+        PoolsEnd::Found(found) => Ok(found),
+        PoolsEnd::NoRow(best) => Err(without_row(gate, best)),
     }
 }
 
 // For a certificate of version 1, where no gate has half columns, or the first search with pools ends without a row.
-#[tactic(auto, using(crate::proofs::Ended::filled_found, crate::proofs::Ended::filled_spent))]
-fn search_filled(alloc: Global, fingers: &Fingers, budget: u64) -> Result<EitherFound, EitherStop>
+#[tactic(auto, using(crate::proofs::Rules::filled_rules))]
+fn search_filled(
+    alloc: Global,
+    fingers: &Fingers,
+    budget: u64,
+    best: Option<InVain>,
+) -> Result<EitherFound, EitherStop>
     requires fingers { AreFingers fingers.now }
-    requires longer { EndsLonger fingers.now }
+    requires longer { LongerBy fingers.now budget best }
+    requires best { IsBest fingers.now budget best }
     ensures found { IfOk result (IsFound fingers.now budget) }
     ensures stopped { IfErr result (Stops fingers.now budget) }
 {
     match search_trails(alloc, fingers, budget) {
-        Ok(found) => Ok(EitherFound {
-            row: found.row,
-            evidence: TrailEvidence::Filled(found.trails),
-        }),
-        Err(TrailStop::Unfinished { trails, proved }) => Err(EitherStop::Unfinished {
-            evidence: TrailEvidence::Filled(trails),
-            proved,
-        }),
-        Err(TrailStop::Choices { gate }) => search_crowded(alloc, fingers, budget, gate),
-        Err(TrailStop::NoMemory) => Err(EitherStop::NoMemory),
+        Ok(found) => {
+            drop(best);
+            Ok(EitherFound {
+                row: found.row,
+                evidence: TrailEvidence::Filled(found.trails),
+            })
+        }
+        Err(TrailStop::Unfinished { trails, proved }) => {
+            Err(spent(best, TrailEvidence::Filled(trails), proved))
+        }
+        Err(TrailStop::Choices { gate }) => search_crowded(alloc, fingers, budget, gate, best),
+        Err(TrailStop::NoMemory) => {
+            drop(best);
+            Err(EitherStop::NoMemory)
+        }
     }
 }
 
@@ -111,7 +205,9 @@ fn search_filled(alloc: Global, fingers: &Fingers, budget: u64) -> Result<Either
 /// one row first, since far fewer choices are listed so. Where no gate has any, or that ends without a row though
 /// units are left, `search_trails` is next. Where it ends at a gate, `search_pool_row` leaves open the gates alone that
 /// have too many ways to be filled. Then it leaves out the fingers of one row on gates that pair in too many ways:
-/// first those of the N row. Where this finds no row either, that gate is told. Each has the whole budget.
+/// first those of the N row. Each has the whole budget, and where one spends it, that is the end. Without a row the
+/// result is the greatest number of gaps that the last search or one with pools proved. Where no search with pools
+/// could list lemmas and none spent its budget, it is that gate.
 pub fn search_either(
     alloc: Global,
     fingers: &Fingers,
@@ -122,10 +218,10 @@ pub fn search_either(
     ensures stopped { IfErr result (Stops fingers.now budget) }
 {
     if !has_half_columns(fingers) {
-        return search_filled(alloc, fingers, budget);
+        return search_filled(alloc, fingers, budget, None);
     }
-    match search_pools(alloc, fingers, Opening::Longer, budget)? {
-        Some(found) => Ok(found),
-        None => search_filled(alloc, fingers, budget),
+    match search_pools(alloc, fingers, Opening::Longer, budget, None)? {
+        PoolsEnd::Found(found) => Ok(found),
+        PoolsEnd::NoRow(best) => search_filled(alloc, fingers, budget, best),
     }
 }

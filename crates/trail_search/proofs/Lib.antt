@@ -2,6 +2,7 @@ pub mod Certified
 pub mod Front
 pub mod Listed
 pub mod Spent
+pub mod Went
 pub mod Tried
 pub mod Ends
 pub mod Filled

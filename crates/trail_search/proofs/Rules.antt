@@ -5,11 +5,12 @@ use Rattle.trail_search.proofs.OpenLevels.{open_short}
 use Rattle.trail_search.proofs.Proved.{gate_crowded, kept_least, levels_short, none_kept}
 use Rattle.trail_search.proofs.Proving.{filled_are, is_proof}
 use Rattle.trail_search.proofs.Reached.{within_same}
-use Rattle.trail_search.proofs.Spent.{searched}
 use Rattle.trail_search.proofs.States.{state_first}
 use Rattle.trail_search.proofs.Tried.{first_found, none_found, true_none}
 
-pub ruleset row_from_rules = (true_none, first_found, none_found, searched)
+pub ruleset steps_rules = (true_none)
+
+pub ruleset row_from_rules = (first_found, none_found)
 
 pub ruleset prove_rules = (none_kept, is_proof, open_short)
 

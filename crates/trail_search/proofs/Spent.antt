@@ -23,12 +23,12 @@ use Rattle.lemma_check.specs.Known.{best_known}
 use Rattle.lemma_check.proofs.States.{same_state_from}
 use Rattle.trail_search.specs.Proof.{AttemptsOnce, IsAttempt, attempt_units}
 use Rattle.trail_search.specs.Behind.{fingers_behind}
-use Rattle.trail_search.specs.Searched.{AreSearched, Bounded, IsBounded, IsStateWithin, IsBoundWithin, IsTryWithin, IsTry, Try, tried_units}
+use Rattle.trail_search.specs.Searched.{Bounded, IsBounded, IsStateWithin, IsBoundWithin, IsTryWithin, IsTry, Try, tried_units}
 use Rattle.cell_num.specs.declared.halt.Halt.{Halt}
 use Rattle.cell_num.specs.declared.halt.Halt.TheVariants as halted
 use Rattle.trail_search.specs.Visit.{IfSpent, IsRaised, IsSpent, TriesOnce}
 
-abbrev Differ : Bounded → Bounded → Type 0
+abbrev pub Differ : Bounded → Bounded → Type 0
 Differ a b = a ≢ b
 
 -- ---- attempts
@@ -83,7 +83,7 @@ spent_more k may_try n m s t most more a b left left_after others rest less up f
       many = omega (arith, h.many, few);
     }
 
-apart : (k : Kinds) (n most : ℕ) (a b c : Known) (x y : Bounded) → IsRaised k n most a b x → IsRaised k n most b c y → x ≢ y
+pub apart : (k : Kinds) (n most : ℕ) (a b c : Known) (x y : Bounded) → IsRaised k n most a b x → IsRaised k n most b c y → x ≢ y
 apart k n most a b c x y hx hy e =
     let above : best_known b k x.state < x.bound = subst (λ (z : Bounded). best_known b k z.state < z.bound) (sym e) hy.unknown in
     omega (arith, hx.known, above)
@@ -190,25 +190,5 @@ spent_bound k may_try s bound a b c left left_after valid need unknown noted h =
       many = omega (arith, h.many, count);
     }
 
-state_within_start : (k : Kinds) (s : State) (most : ℕ) → AreSomeKinds k → s ≡ start_of k → IsStateWithin k most s most
+pub state_within_start : (k : Kinds) (s : State) (most : ℕ) → AreSomeKinds k → s ≡ start_of k → IsStateWithin k most s most
 state_within_start k s most kinds e = record { gaps = 0; reached = subst (λ (z : State). IsReached k z 0) (sym e) (reached_start k (gates_are_nets k kinds)); within = omega arith }
-
--- all in all
-pub searched : (k : Kinds) (may_try : Bool) (s : State) (a b : Known) (n most left left_after others : ℕ) → AreSomeKinds k → s ≡ start_of k → others ≡ columns_left k s → IsSpent k may_try n s most a b left left_after others → AreSearched k may_try most (left - left_after) (columns_left k (start_of k))
-searched k may_try s a b n most left left_after others kinds e same h =
-    let there : columns_left k s ≡ columns_left k (start_of k) = ap (columns_left k) e in
-    record {
-      bounds = h.bounds;
-      tries = h.tries;
-      different = h.different;
-      each = all_imply (IsRaised k n most a b) (IsBounded k most) h.bounds (λ x r. r.is) h.each;
-      tried = h.tried;
-      within = h.within most (state_within_start k s most kinds e);
-      tried_within = h.tried_within most (state_within_start k s most kinds e);
-      few = omega (arith, h.few, same, there);
-      many = omega (arith, h.many, same, there);
-    }
-
-pub searched_less : (k : Kinds) (may_try : Bool) (most units fewer others same : ℕ) → fewer ≤ units → others ≡ same → AreSearched k may_try most units others → AreSearched k may_try most fewer same
-searched_less k may_try most units fewer others same less e h =
-    record { bounds = h.bounds; tries = h.tries; different = h.different; each = h.each; tried = h.tried; within = h.within; tried_within = h.tried_within; few = omega (arith, h.few, e); many = omega (arith, h.many, less, e) }

@@ -1,5 +1,5 @@
 -- How a search ended: with the first least row and its certificate, or with what is proved without a row.
-use Rattle.std.specs.Prelude.{ℕ, ◌≡◌, ◌≤◌, ◌+◌, ◌-◌, ◌==◌, ◌⊎◌, List, [], Some, None, IsNone, length, slice_get}
+use Rattle.std.specs.Prelude.{ℕ, ◌≡◌, ◌≤◌, ◌+◌, ◌-◌, ◌⊎◌, List, [], Some, None, IsNone, slice_get}
 use Rattle.cell_num.specs.declared.net.NetNo.{NetNo}
 use Rattle.cell_num.specs.declared.finger.Fingers.{Fingers}
 use Rattle.cell_num.specs.Fingers.{columns_of}
@@ -17,7 +17,7 @@ use Rattle.trail_check.specs.Leveled.{open_of}
 use Rattle.trail_check.specs.Rows.{AreFewestGaps}
 use Rattle.trail_search.specs.Filling.{opened_gates, search_levels}
 use Rattle.trail_search.specs.Proof.{HasNew, HasReached, IsClosedWithMany, IsMostOf, gate_units, lemma_units}
-use Rattle.trail_search.specs.Searched.{AreSearched}
+use Rattle.trail_search.specs.Searched.{WentForRow, attempts_by}
 use Rattle.trail_search.specs.declared.found.TrailFound.{TrailFound}
 use Rattle.trail_search.specs.declared.found.TrailStop.{TrailStop}
 use Rattle.trail_search.specs.declared.found.TrailStop.TheVariants as stopped
@@ -39,11 +39,11 @@ pub record IsTrailFound (f : Fingers) (budget : ℕ) (row : List Column) (trails
   pub reached : HasReached f trails (gaps_of row)
   pub kept : lemma_units f trails ≤ budget
 
--- the units of the budget but those of a visit for each lemma, one at each gate and one at the end
+-- the units of the budget, without those of a visit for each lemma, one at each gate and one at the end
 abbrev pub row_units : Fingers → ℕ → TrailCertificate → ℕ
 row_units f budget trails = budget - (lemma_units f trails + gate_units f trails + 1)
 
--- the units went for lemmas, but for those of one visit at each gate at most
+-- the units went for lemmas, except those of one visit at each gate at most
 abbrev pub WentForLemmas : Fingers → ℕ → TrailCertificate → Type 0
 WentForLemmas f budget trails = budget ≤ lemma_units f trails + gate_units f trails
 
@@ -51,8 +51,8 @@ WentForLemmas f budget trails = budget ≤ lemma_units f trails + gate_units f t
 -- each column, went for bounds of states, and where no gate is left open for attempts to refute states by trails.
 pub record WentForRows (f : Fingers) (budget : ℕ) (trails : TrailCertificate) (proved : ℕ) : Type 0 where
   pub fewest : (open_of f trails).gates ≡ [] → AreFewestGaps f proved
-  pub searched : WithKinds f (λ k.
-      AreSearched k (length (opened_gates f trails.order) == 0) (proved + 1) (row_units f budget trails) (columns_of f))
+  pub searched : WithKinds f (λ k. WentForRow k (attempts_by (opened_gates f trails.order)) (proved + 1)
+      (row_units f budget trails) (columns_of f))
 
 -- The budget is spent. The certificate lists no row. Its gates are as a checker asks, and all its lemmas are justified:
 -- they prove that no arrangement has fewer gaps. No lemma is said by an earlier one, and each is on a state that is

@@ -1,5 +1,7 @@
 -- What the units of a search for a row went for: bounds of states, and attempts by trails to refute states.
-use Rattle.std.specs.Prelude.{ℕ, ◌≤◌, ◌<◌, ◌+◌, ◌≢◌, Bool, IsTrue, List, All, AllPairs, length, sum_by}
+use Rattle.std.specs.Prelude.{ℕ, ◌≤◌, ◌<◌, ◌+◌, ◌-◌, ◌/◌, ◌==◌, ◌≢◌, ◌++◌, Bool, true, false, IsTrue}
+use Rattle.std.specs.Prelude.{List, All, AllPairs, if◌then◌else◌, length, sum_by}
+use Rattle.cell_num.specs.declared.net.NetNo.{NetNo}
 use Rattle.row_state.specs.declared.kind.Kinds.{Kinds}
 use Rattle.row_state.specs.declared.state.State.{State}
 use Rattle.row_state.specs.Completion.{Need}
@@ -7,6 +9,8 @@ use Rattle.row_state.specs.Start.{IsState}
 use Rattle.row_search.specs.Reached.{IsReached}
 use Rattle.trail_search.specs.Proof.{Attempt, IsAttempt, attempt_units}
 use Rattle.trail_search.specs.Behind.{fingers_behind}
+use Rattle.trail_search.specs.declared.attempts.Attempts.{Attempts}
+use Rattle.trail_search.specs.declared.attempts.Attempts.TheVariants.{AtOnce, InSecondHalf, Never}
 
 -- A prefix of some arrangement has the state. Its gaps and the bound are at most `most`.
 pub record IsStateWithin (k : Kinds) (most : ℕ) (s : State) (bound : ℕ) : Type 0 where
@@ -48,15 +52,33 @@ IsTryWithin k most t = IsStateWithin k most t.state (t.attempt.limit + 1)
 abbrev pub tried_units : Kinds → Try → ℕ
 tried_units k t = attempt_units (fingers_behind k t.state) t.attempt
 
--- The units went for bounds of states that rows reach, no two of them alike, and that many others; and for one attempt
--- each at most, where attempts may be made.
-pub record AreSearched (k : Kinds) (may_try : Bool) (most units others : ℕ) : Type 0 where
-  pub bounds : List Bounded
+-- none where one of the gates is left open
+abbrev pub attempts_by : List NetNo → Attempts
+attempts_by opened = if length opened == 0 then AtOnce else Never
+
+-- attempts are made with some of the units
+abbrev pub may_try : Attempts → Bool
+may_try Never = false
+may_try _ = true
+
+-- the units that are spent before attempts are made
+abbrev pub plain_units : Attempts → ℕ → ℕ
+plain_units Never units = units
+plain_units AtOnce units = 0
+plain_units InSecondHalf units = units / 2
+
+-- The units went for a row. Those before attempts, except so many others, went for the bounds `plain`. The rest,
+-- except as many others, went for the bounds `later` and for attempts: one for each of these bounds at most, and so
+-- many others. The bounds are of states that rows reach, and no two of all of them are alike.
+pub record WentForRow (k : Kinds) (attempts : Attempts) (most units others : ℕ) : Type 0 where
+  pub plain : List Bounded
+  pub later : List Bounded
   pub tries : List Try
-  pub different : AllPairs (λ (a b : Bounded). a ≢ b) bounds
-  pub each : All (IsBounded k most) bounds
-  pub tried : All (IsTry k may_try) tries
-  pub within : All (IsBoundWithin k most) bounds
+  pub different : AllPairs (λ (a b : Bounded). a ≢ b) (plain ++ later)
+  pub each : All (IsBounded k most) (plain ++ later)
+  pub within : All (IsBoundWithin k most) (plain ++ later)
+  pub tried : All (IsTry k (may_try attempts)) tries
   pub tried_within : All (IsTryWithin k most) tries
-  pub few : length tries ≤ length bounds + others
-  pub many : units ≤ length bounds + sum_by (tried_units k) tries + others
+  pub before : plain_units attempts units ≤ length plain + others
+  pub few : length tries ≤ length later + others
+  pub rest : units - plain_units attempts units ≤ length later + sum_by (tried_units k) tries + others

@@ -19,7 +19,8 @@ fn has_finger(fingers: &Fingers, gate: u32) -> bool
     count_on(fingers.p.as_slice(), gate) > 0 || count_on(fingers.n.as_slice(), gate) > 0
 }
 
-fn is_uneven(fingers: &Fingers, gate: u32) -> bool
+/// Whether the gate has more fingers in one row than in the other: half columns.
+pub fn is_uneven(fingers: &Fingers, gate: u32) -> bool
     ensures { result ≡ is_uneven fingers.now gate }
 {
     count_on(fingers.p.as_slice(), gate) != count_on(fingers.n.as_slice(), gate)
@@ -67,7 +68,8 @@ fn crowded(alloc: Global, fingers: &Fingers, order: &[NetNo]) -> Result<NetList,
     Ok(gates)
 }
 
-fn having_more(
+/// The gates with more fingers in the row.
+pub fn having_more(
     alloc: Global,
     row: Row,
     fingers: &Fingers,

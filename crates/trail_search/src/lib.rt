@@ -2,6 +2,7 @@
 // least a number of gaps.
 #![tactic(auto)]
 
+mod attempts;
 mod behind;
 mod cut;
 mod descent;
@@ -22,8 +23,9 @@ mod search;
 mod units;
 mod visit;
 
+pub use attempts::Attempts;
 pub use first::{ListedRow, first_row};
 pub use found::{TrailFound, TrailStop};
 pub use gate_order::order;
-pub use gates::{fill, opened};
+pub use gates::{fill, having_more, is_uneven, opened};
 pub use search::search_trails;

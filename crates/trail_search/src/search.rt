@@ -3,11 +3,12 @@ ghost use Rattle.cell_num.specs.Fingers.{AreFingers};
 ghost use Rattle.trail_search.specs.declared.found.TrailStop.TheVariants as stopped;
 ghost use Rattle.trail_search.specs.Ended.{IsFound, Stops};
 ghost use Rattle.trail_search.specs.First.{with_best};
+ghost use Rattle.trail_search.specs.Searched.{attempts_by};
 
 use crate::first::first_row;
 use crate::limits::prove;
 use crate::proof::{Proof, ProveStop};
-use crate::{TrailFound, TrailStop};
+use crate::{Attempts, TrailFound, TrailStop};
 use bound_log::Best;
 use cell_num::{Fingers, Halt, NetNo};
 use row_state::kinds;
@@ -31,6 +32,17 @@ fn unfinished(proof: Proof) -> TrailStop
     TrailStop::Unfinished {
         trails: proof.trails,
         proved: proof.gaps,
+    }
+}
+
+// An attempt would list the ways of each gate, also of one that is left open.
+fn attempts(proof: &Proof) -> Attempts
+    ensures { result ≡ attempts_by proof.now.opened }
+{
+    if proof.opened.len() == 0 {
+        Attempts::AtOnce
+    } else {
+        Attempts::Never
     }
 }
 
@@ -58,8 +70,7 @@ pub fn search_trails(alloc: Global, fingers: &Fingers, budget: u64) -> Result<Tr
         Err(ProveStop::Choices { gate }) => return Err(TrailStop::Choices { gate }),
         Err(ProveStop::NoMemory) => return Err(TrailStop::NoMemory),
     };
-    let tries = proof.opened.len() == 0;
-    match first_row(alloc, &kinds, proof.gaps, tries, &mut left) {
+    match first_row(alloc, &kinds, proof.gaps, attempts(&proof), left) {
         Ok(Some(first)) => Ok(TrailFound {
             row: first.row,
             trails: with_row(proof.trails, first.best),

@@ -1,4 +1,4 @@
-use Rattle.std.proofs.Common.{ℕ, ◌≡◌, ◌+◌, ◌-◌, ◌==◌, Bool, length, ap, [], arith, inl, inr, subst, sym, ◌∙◌}
+use Rattle.std.proofs.Common.{◌≡◌, ◌+◌, ap, [], arith, inl, inr, subst, sym, ◌∙◌}
 use Rattle.cell_num.specs.Fingers.{columns_of}
 use Rattle.row_state.specs.Completion.{Need}
 use Rattle.row_state.specs.Start.{columns_left, start_of}
@@ -6,14 +6,15 @@ use Rattle.row_state.proofs.Unfold.{columns_same}
 use Rattle.trail_log.specs.declared.trails.TrailCertificate.{TrailCertificate}
 use Rattle.trail_search.specs.Proof.{IsClosedWithMany, IsUnfinished}
 use Rattle.trail_search.specs.declared.found.TrailStop.TheVariants as stopped
-use Rattle.trail_search.specs.Ended.{IsTrailFound, Stops, WentForRows}
-use Rattle.trail_search.specs.Searched.{AreSearched}
+use Rattle.trail_search.specs.Ended.{IsTrailFound, Stops, WentForRows, row_units}
+use Rattle.trail_search.specs.declared.attempts.Attempts.{Attempts}
+use Rattle.trail_search.specs.Searched.{WentForRow, attempts_by}
 use Rattle.trail_search.specs.First.{IsFirstRow}
 use Rattle.trail_search.specs.Filling.{opened_gates}
 use Rattle.trail_search.proofs.Certified.{few_gaps, fewest_proved, found_is, opened_in_vain, row_found, spent_is}
 use Rattle.trail_check.specs.Leveled.{open_of}
 use Rattle.trail_search.proofs.Proving.{none_opened}
-use Rattle.trail_search.proofs.Spent.{searched_less}
+use Rattle.trail_search.proofs.Went.{went_less}
 use Rattle.trail_search.proofs.search.search_trails.Goals as goal
 
 pub returns-in-Err-Unfinished-clause-stopped : goal.returns-in-Err-Unfinished-clause-stopped
@@ -48,17 +49,16 @@ unreachable-requires c =
 
 pub returns-in-Err-Spent-clause-stopped : goal.returns-in-Err-Spent-clause-stopped
 returns-in-Err-Spent-clause-stopped c =
-    let went : AreSearched c.in_ok-kinds.kinds (c.len-tries.result == 0) (c.in-Ok.proof.gaps + 1) (c.prove.new.left - c.first_row.new.left) (columns_left c.in_ok-kinds.kinds (start_of c.in_ok-kinds.kinds)) = rw c.in-Err-Spent.field-0-is at c.in-Err-Spent.ensures.spent in
-    let none : (c.len-tries.result == 0) ≡ (length (opened_gates c.args.fingers.now c.in-Ok.proof.trails.order) == 0) = ap (λ (n : ℕ). n == 0) (c.len-tries.ensures ∙ ap length c.in-Ok.ensures.proof.opened) in
-    let tried : AreSearched c.in_ok-kinds.kinds (length (opened_gates c.args.fingers.now c.in-Ok.proof.trails.order) == 0) (c.in-Ok.proof.gaps + 1) (c.prove.new.left - c.first_row.new.left) (columns_left c.in_ok-kinds.kinds (start_of c.in_ok-kinds.kinds)) = subst (λ (b : Bool). AreSearched c.in_ok-kinds.kinds b (c.in-Ok.proof.gaps + 1) (c.prove.new.left - c.first_row.new.left) (columns_left c.in_ok-kinds.kinds (start_of c.in_ok-kinds.kinds))) none went in
-    let spent : c.first_row.new.left ≡ 0 = rw c.in-Err-Spent.field-0-is at c.in-Err-Spent.ensures.halted in
+    let told : WentForRow c.in_ok-kinds.kinds c.attempts.result (c.in-Ok.proof.gaps + 1) c.prove.new.left (columns_left c.in_ok-kinds.kinds (start_of c.in_ok-kinds.kinds)) = rw c.in-Err-Spent.field-0-is at c.in-Err-Spent.ensures.spent in
+    let by : c.attempts.result ≡ attempts_by (opened_gates c.args.fingers.now c.in-Ok.proof.trails.order) = c.attempts.ensures ∙ ap attempts_by c.in-Ok.ensures.proof.opened in
+    let went : WentForRow c.in_ok-kinds.kinds (attempts_by (opened_gates c.args.fingers.now c.in-Ok.proof.trails.order)) (c.in-Ok.proof.gaps + 1) c.prove.new.left (columns_left c.in_ok-kinds.kinds (start_of c.in_ok-kinds.kinds)) = subst (λ (z : Attempts). WentForRow c.in_ok-kinds.kinds z (c.in-Ok.proof.gaps + 1) c.prove.new.left (columns_left c.in_ok-kinds.kinds (start_of c.in_ok-kinds.kinds))) by told in
     let rows : WentForRows c.args.fingers.now c.args.budget c.in-Ok.proof.trails c.in-Ok.proof.gaps = record {
       fewest = λ none. fewest_proved c.in_ok-kinds.kinds c.args.fingers.now c.in-Ok.proof c.requires c.in_ok-kinds.ensures.kinds c.in_ok-kinds.ensures.sound c.in-Ok.ensures.proof c.in-Ok.ensures.most none;
       searched = (
         c.in_ok-kinds.kinds,
         c.in_ok-kinds.ensures.kinds,
         c.in_ok-kinds.ensures.sound,
-        searched_less c.in_ok-kinds.kinds _ _ (c.prove.new.left - c.first_row.new.left) _ (columns_left c.in_ok-kinds.kinds (start_of c.in_ok-kinds.kinds)) (columns_of c.args.fingers.now) (omega (arith, spent, c.in-Ok.ensures.units.many)) (sym (columns_same c.args.fingers.now c.in_ok-kinds.kinds c.in_ok-kinds.ensures.kinds)) tried,
+        went_less c.in_ok-kinds.kinds (c.in-Ok.proof.gaps + 1) c.prove.new.left (row_units c.args.fingers.now c.args.budget c.in-Ok.proof.trails) (columns_left c.in_ok-kinds.kinds (start_of c.in_ok-kinds.kinds)) (columns_of c.args.fingers.now) (omega (arith, c.in-Ok.ensures.units.many)) (sym (columns_same c.args.fingers.now c.in_ok-kinds.kinds c.in_ok-kinds.ensures.kinds)) (attempts_by (opened_gates c.args.fingers.now c.in-Ok.proof.trails.order)) went,
       );
     } in
     subst (Stops c.args.fingers.now c.args.budget) (sym c.unfinished-in-Err-Spent.ensures) (spent_is c.in_ok-kinds.kinds c.args.fingers.now c.args.budget c.in-Ok.proof c.in_ok-kinds.ensures.kinds c.in_ok-kinds.ensures.sound c.in-Ok.ensures.proof (omega (arith, c.in-Ok.ensures.units.few)) (inr rows))
