@@ -4,31 +4,31 @@ from collections import Counter
 from fingers import columns_of
 from left_out import may_leave_out, staying
 from pool_text import Fault, Reader
-from pools import POOL, START, Met, PoolLevels, State
+from pools import PoolLevels, State, is_pool
 from trails import Lemma, gaps_proved
 
 
-def state_of(levels, line):
-    """The state that a line lists: of what is open, what its classes, its odd nodes and its balances say."""
-    if line.done >= len(levels.open):
-        return START
-    gates, (places, nodes) = levels.gates, levels.open[line.done]
-    odd = {node for node in line.odd if node in nodes}
-    pool_row = 1 if gates.in_p else 2
-    met = {}
-    for each, marked in line.classes:
-        named = [(POOL, place[1]) if place[0] else place[1:] for place in each if place[0] in (0, pool_row)]
-        named = sorted(place for place in named if place in places)
-        for place in named:
-            met.setdefault(place, Met(named[0], is_odd(gates, line, odd, place), marked))
-    balances = {net: balance for net, balance in line.free.items() if (POOL, net) in places and line.done}
-    return State(frozenset(met.items()), frozenset(odd), frozenset(balances.items()))
+def places_in(line):
+    """The places that the classes list."""
+    return [place for places, _ in line.classes for place in places]
 
 
-def is_odd(gates, line, odd, place):
-    if place[0] != POOL:
-        return place in line.odd
-    return (sum(gates.place(node) == place for node in odd) + line.free.get(place[1], 0)) % 2 == 1
+def is_own_text(levels, line):
+    """Whether the line lists nothing but its state: open places, each once; odd nodes of classes and open ones of pools; balances of open pools."""
+    gates, (places, nodes) = levels.gates, levels.open[min(line.done, len(levels.choices))]
+    listed = places_in(line)
+    return (places.issuperset(listed) and len(set(listed)) == len(listed)
+            and all(node in listed or node in nodes for node in line.odd)
+            and all(line.done > 0 and gates.pool(net) in places for net in line.free))
+
+
+def state_of(gates, line):
+    """The state of such a line. A pool is odd if its odd nodes and its balance have an odd sum."""
+    def is_odd(pool):
+        return (sum(gates.place(node) == pool for node in line.odd) + line.free.get(pool[1], 0)) % 2 == 1
+    odd = {*line.odd, *(place for place in places_in(line) if is_pool(place) and is_odd(place))}
+    classes = frozenset((frozenset(places), ended) for places, ended in line.classes)
+    return State(frozenset(odd), classes, frozenset((gates.pool(net), balance) for net, balance in line.free.items()))
 
 
 def check_row(fingers, certificate, proved):
@@ -73,10 +73,13 @@ def check(fingers, name, text):
     levels = PoolLevels(staying(fingers, out), certificate.order, certificate.fill)
     if levels.crowded is not None:
         raise Fault(f"trails Choices gate {fingers.nets[levels.crowded]}")
-    lemmas = [Lemma(line.bound, line.done, state_of(levels, line)) for line in certificate.lines]
-    wrong, ends = levels.first_unproved(lemmas)
+    first = 5 if out is None else 7
+    for at, line in enumerate(certificate.lines, first):
+        if not is_own_text(levels, line):
+            raise Fault(f"trails Line line {at}")
+    wrong, ends = levels.first_unproved([Lemma(line.bound, line.done, state_of(levels.gates, line)) for line in certificate.lines])
     if wrong is not None:
-        raise Fault(f"trails Unproved line {(5 if out is None else 7) + wrong}")
+        raise Fault(f"trails Unproved line {first + wrong}")
     proved = gaps_proved(ends)
     check_row(fingers, certificate, proved)
     return certificate, proved

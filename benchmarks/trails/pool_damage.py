@@ -1,5 +1,4 @@
-"""Changes of certificates by trails of versions 2 and 3, one at a time, as text. Many are faults; some say the same or say something else that is
-true."""
+"""Changes of certificates by trails of versions 2 and 3, mostly one at a time, as text. Many are faults; some say something else that is true."""
 from left_out import gates_with_more
 from pool_text import FEWER, VERSION
 
@@ -42,6 +41,16 @@ def in_order(places):
     return "+".join(sorted({place.rstrip("!") for place in places}, key=rank)) + "!" * marked
 
 
+def classes_in_order(classes):
+    return sorted((in_order(one.split("+")) for one in classes if one), key=lambda one: rank(one.split("+")[0]))
+
+
+def of_other_row(place):
+    """A pool of the other row in place of a pool."""
+    p, n = place.rstrip("!").split(".")
+    return f"{n}.{p}" + "!" * place.endswith("!") if "*" in (p, n) else place
+
+
 def of_nodes(draw, nets, items):
     """Changes of ODD."""
     node = f"{draw.randrange(nets)}.{draw.randrange(nets)}"
@@ -72,11 +81,7 @@ def of_balances(draw, nets, items):
 
 def of_classes(draw, nets, items):
     """Changes of CLASSES."""
-    new = any_place(draw, nets)
-
-    def put(classes):
-        kept = [in_order(one.split("+")) for one in classes if one]
-        return sorted(kept, key=lambda one: rank(one.split("+")[0]))
+    new, put = any_place(draw, nets), classes_in_order
     yield "a class more", put([*items, new])
     if not items:
         return
@@ -91,15 +96,33 @@ def of_classes(draw, nets, items):
     if rest:
         other = draw.choice(rest)
         moved = draw.choice(other.rstrip("!").split("+"))
-        yield "a place in two classes", put([*rest, f"{moved}+{one}"])
+        yield "a place of two classes", put([*rest, f"{moved}+{one}"])
         yield "two classes joined", put([*(it for it in rest if it != other), f"{other}+{one}"])
     if len(places) > 1:
         cut = draw.randrange(1, len(places))
         yield "a class parted", put([*rest, "+".join(places[:cut]), "+".join(places[cut:])])
 
 
+def of_own_text(draw, nets, line):
+    """Changes after which a line is mostly not the text of its state."""
+    _, bound, _, odd, free, classes = line.split(" ")
+    each, net = split(classes), draw.randrange(nets)
+
+    def put(changed):
+        return words_with(line, 5, joined(classes_in_order(changed)))
+    yield "before the first gate", words_with(line, 2, "0")
+    yield "after the last gate", words_with(line, 2, "31")
+    yield "any place in a new class", put([*each, any_place(draw, nets)])
+    yield "odd nodes of no class", words_with(words_with(line, 5, "-"), 3, odd if odd != "-" else f"{net}.{draw.randrange(nets)}")
+    yield "balances before the first gate", f"lemma {bound} 0 - {free if free != '-' else f'{net}-1'} -"
+    if each:
+        yield "a place also in a class of its own", put([*each, draw.choice(each).rstrip("!").split("+")[-1]])
+    if "*" in classes:
+        yield "pools of the facing row", put("+".join(map(of_other_row, one.split("+"))) for one in each)
+
+
 def of_lemma(draw, nets, line):
-    """The lemma with one field changed."""
+    """Changes of a lemma, most of them of one field."""
     _, bound, done, odd, free, classes = line.split(" ")
     yield "a greater bound", words_with(line, 1, str(int(bound) + draw.choice((1, 2))))
     yield "a lesser bound", words_with(line, 1, str(int(bound) - 1))
@@ -107,6 +130,7 @@ def of_lemma(draw, nets, line):
     for at, word, of in ((3, odd, of_nodes), (4, free, of_balances), (5, classes, of_classes)):
         for what, items in of(draw, nets, split(word)):
             yield what, words_with(line, at, joined(items))
+    yield from of_own_text(draw, nets, line)
 
 
 def of_nets(draw, nets, line, name):
@@ -210,6 +234,10 @@ def of_text(draw, nets, lines):
         yield "lemmas swapped", swapped
         yield "a number with a zero", put(at, lines[at].replace("lemma ", "lemma 0"))
         yield "two spaces", put(at, lines[at].replace(" ", "  ", 1))
+        unproved = put(lemmas[0], words_with(lines[lemmas[0]], 1, "64"))
+        unproved[lemmas[-1]] = f"lemma 1 0 - {draw.randrange(nets)}-1 -"
+        yield "a greater bound, and balances before the first gate", unproved
+        yield "this in no order", [*unproved[:3], "order -", *unproved[4:]]
     first = HEAD + len(lemmas)
     if lines[first].startswith("gaps "):
         yield from of_row(draw, lines, first)

@@ -2,13 +2,13 @@
 from collections import namedtuple
 
 from left_out import LeftOut
-from pools import POOL
+from pools import N_POOL, P_POOL, is_pool
 
 VERSION, FEWER = "cellgen-trails 2", "cellgen-trails 3"
 MOST_COUNT = MOST_BOUND = 64
 MOST_DONE, MOST_GAPS = 31, 63
 
-# A lemma's line: ODD and CLASSES as places, classes with their mark, FREE as balances by net.
+# A lemma's line: nodes and pools as in pools.py, classes with their mark, FREE as balances by net.
 Line = namedtuple("Line", "bound done odd free classes")
 # `out` is None in version 2, gaps and columns are None where no row is listed.
 Certificate = namedtuple("Certificate", "out fill order lines gaps columns")
@@ -24,30 +24,26 @@ def listed(items, between=","):
     return between.join(items) or "-"
 
 
-def place_text(place, in_p):
-    if place[0] != POOL:
-        return "{}.{}".format(*place)
-    return f"{place[1]}.*" if in_p else f"*.{place[1]}"
+def place_text(place):
+    p, n = place
+    return f"{n}.*" if p == P_POOL else f"*.{n}" if p == N_POOL else f"{p}.{n}"
 
 
-def line_text(lemma, in_p):
+def line_text(lemma):
     """The line of a lemma on a state that choices lead to."""
-    met = dict(lemma.state.met)
-    odd = sorted([place for place, here in met.items() if here.odd and place[0] != POOL] + list(lemma.state.odd))
-    classes = {}
-    for place in sorted(met):
-        classes.setdefault(met[place].name, []).append(place)
-    each = ["+".join(place_text(place, in_p) for place in places) + "!" * met[name].ended for name, places in sorted(classes.items())]
-    free = [f"{net}{balance:+d}" for net, balance in sorted(lemma.state.balances)]
-    return " ".join(["lemma", str(lemma.bound), str(lemma.done), listed(place_text(node, in_p) for node in odd), listed(free), listed(each)])
+    odd, classes, balances = lemma.state
+    nodes = [place_text(node) for node in sorted(odd) if not is_pool(node)]
+    free = [f"{net}{balance:+d}" for (_, net), balance in sorted(balances)]
+    each = ["+".join(map(place_text, places)) + "!" * ended for places, ended in sorted((sorted(places), ended) for places, ended in classes)]
+    return " ".join(["lemma", str(lemma.bound), str(lemma.done), listed(nodes), listed(free), listed(each)])
 
 
-def certificate_text(name, fill, order, levels, lemmas, row=None, out=None):
-    """The text; `row` is the number of gaps and the columns' lines, if a row is listed, and `out` what is left out of the levels, if anything is."""
+def certificate_text(name, fill, order, lemmas, row=None, out=None):
+    """The text; `row` is the number of gaps and the columns' lines, if a row is listed, and `out` what is left out, if anything is."""
     head = [] if out is None else [FEWER, f"without {out.row} " + ",".join(map(str, out.gates))]
     head += [VERSION, f"cell {name}", "fill " + listed(map(str, sorted(fill))), "order " + listed(map(str, order))]
     ending = ["open"] if row is None else [f"gaps {row[0]}", *row[1]]
-    return "\n".join([*head, *(line_text(lemma, levels.gates.in_p) for lemma in lemmas), *ending, "end", ""])
+    return "\n".join([*head, *map(line_text, lemmas), *ending, "end", ""])
 
 
 # ---- reading
@@ -97,11 +93,10 @@ class Reader:
         return self.net(p), self.net(n)
 
     def place(self, word):
-        """A node is (0, P net, N net). A pool is (1, net) of the P row or (2, net) of the N row."""
         p, n = two(word, ".")
         if n == "*":
-            return 1, self.net(p)
-        return (2, self.net(n)) if p == "*" else (0, *self.node(word))
+            return P_POOL, self.net(p)
+        return (N_POOL, self.net(n)) if p == "*" else self.node(word)
 
     def balance(self, word):
         sign = "-" if "-" in word else "+"

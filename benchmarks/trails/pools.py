@@ -1,20 +1,19 @@
 """Ends of trails where half columns stay open, as docs/FORMATS.md has them for version 2 of certificates: choices, open places, states, lemmas.
 
-A node is a pair of nets, P net and N net. A pool is the pair of POOL and its net, so pools come after all nodes. It is plain and slow, and
-shares no code with the program.
+A node is a pair of nets, P net and N net. A pool is the pair of its row, P_POOL or N_POOL, and its net. So places ascend as in a text. It is
+plain and slow, and shares no code with the program.
 """
-from collections import namedtuple
+from collections import defaultdict, namedtuple
 from functools import lru_cache
 
 from fingers import columns_on
-from trails import Lemma, edges_of, nets_of
+from trails import Lemma, edges_of, joined, nets_of
 
-POOL = 256                                                   # above each net
+P_POOL, N_POOL = 256, 257                                    # above each net
 MOST_WAYS = 65_536
 
 Choice = namedtuple("Choice", "edges halves")                # edges in order; the nets of each finger that is alone
-Met = namedtuple("Met", "name odd ended")                    # of a place: the name of its class, whether it is odd, whether the class has an end
-State = namedtuple("State", "met odd balances")              # places with their Met; odd nodes of pools; nets with balances other than 0
+State = namedtuple("State", "odd classes balances")          # odd nodes and pools; classes as (places, has an end); pools with balances other than 0
 Open = namedtuple("Open", "places nodes")                    # what some gates can meet: places, and the nodes of pools among it
 
 START = State(frozenset(), frozenset(), frozenset())
@@ -22,6 +21,10 @@ START = State(frozenset(), frozenset(), frozenset())
 
 class TooManyWays(Exception):
     """The fingers of a gate pair in too many ways."""
+
+
+def is_pool(place):
+    return place[0] in (P_POOL, N_POOL)
 
 
 def nets_on(row, gate):
@@ -67,9 +70,12 @@ class Gates:
         self.numbers, self.columns = {}, {}                  # each edge has a number, and each column those of its edges
         self.fewer = [{gate for gate in order if on[gate][row] < on[gate][not row]} for row in (0, 1)]
 
+    def pool(self, net):
+        return (P_POOL if self.in_p else N_POOL), net
+
     def place(self, node):
         net = node[0 if self.in_p else 1]
-        return (POOL, net) if net in self.pools else node
+        return self.pool(net) if net in self.pools else node
 
     def meets(self, gate):
         """The nodes that a gate can meet."""
@@ -81,7 +87,7 @@ class Gates:
     def can_meet(self, gates):
         """The places that some of the gates can meet or end free in, and the nodes of pools that they can meet."""
         nodes = set().union(*map(self.meets, gates))
-        free = {(POOL, net) for gate in gates if gate in self.open for net in nets_on(self.counted, gate)}
+        free = {self.pool(net) for gate in gates if gate in self.open for net in nets_on(self.counted, gate)}
         return Open(frozenset(map(self.place, nodes)) | free, frozenset(node for node in nodes if self.place(node) != node))
 
     def choices(self, gate):
@@ -123,26 +129,17 @@ class Gates:
         return [Choice(tuple(sorted(edges[number] for number in numbers)), tuple((one.lo, one.hi) for one in alone)) for numbers, alone in ways]
 
 
-def join(met, one, other):
-    """An edge or half edge between two places: their classes are one, and each end turns its place."""
-    ends = [met.setdefault(place, Met(place, False, False)) for place in (one, other)]
-    names, ended = {end.name for end in ends}, any(end.ended for end in ends)
-    for place, here in met.items():
-        odd = here.odd ^ (place == one) ^ (place == other)
-        met[place] = Met(min(names), odd, ended) if here.name in names else here._replace(odd=odd)
-
-
-def settle(met, balances, later):
-    """The places that stay open, and how many ends are certain now."""
-    shut = {place: ends_shut(balances.get(place[1], 0)) if place[0] == POOL else int(here.odd)
-            for place, here in met.items() if place not in later.places}
-    ended = {met[place].name for place, ends in shut.items() if ends}
-    stay = {}
-    for place in sorted(met.keys() & later.places):
-        stay.setdefault(met[place].name, place)
-    closed = [place for place in shut if met[place].name == place and not met[place].ended and place not in ended and place not in stay]
-    kept = {place: Met(stay[here.name], here.odd, here.ended or here.name in ended) for place, here in met.items() if place in later.places}
-    return frozenset(kept.items()), sum(shut.values()) + 2 * len(closed)
+def settled(classes, odd, balances, later):
+    """What stays open of the classes, and how many ends are certain now."""
+    left, certain = [], 0
+    for places, ended in classes:
+        ends = sum(ends_shut(balances[place]) if is_pool(place) else place in odd for place in places - later)
+        certain += ends
+        if places & later:
+            left.append((places & later, ended or ends > 0))
+        elif not ended and not ends:
+            certain += 2
+    return frozenset(left), certain
 
 
 class PoolLevels:
@@ -162,21 +159,23 @@ class PoolLevels:
     def after(self, done, state, choice):
         """The state behind a choice of the next gate, and the ends that are certain then."""
         later, place = self.open[done + 1], self.gates.place
-        met, odd, balances = dict(state.met), set(state.odd), dict(state.balances)
+        odd, classes, balances = set(state.odd), list(state.classes), defaultdict(int, state.balances)
         for edge in choice.edges:
-            join(met, *map(place, edge))
+            classes = joined(classes, list(map(place, edge)))
             for node in edge:
-                odd ^= {node} if place(node) != node else set()
+                odd ^= {node, place(node)}
         for half in choice.halves:
-            join(met, *((POOL, net) for net in half))
-            for net in half:
-                balances[net] = balances.get(net, 0) - 1
+            pools = list(map(self.gates.pool, half))
+            classes = joined(classes, pools)
+            for pool in pools:
+                odd ^= {pool}
+                balances[pool] -= 1
         for node in odd - later.nodes:
-            net = place(node)[1]
-            balances[net] = balances.get(net, 0) + 1
-        kept, ends = settle(met, balances, later)
-        left = frozenset((net, balance) for net, balance in balances.items() if balance and (POOL, net) in later.places)
-        return State(kept, frozenset(odd & later.nodes), left), ends
+            if place(node) != node:
+                balances[place(node)] += 1
+        kept, ends = settled(classes, odd, balances, later.places)
+        left = frozenset((pool, balance) for pool, balance in balances.items() if balance and pool in later.places)
+        return State(frozenset(odd & (later.places | later.nodes)), kept, left), ends
 
     def behind(self, done, state):
         """What each choice of the next gate comes to."""
