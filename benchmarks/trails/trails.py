@@ -141,7 +141,7 @@ class Levels:
         """The place of the first lemma that does not follow from those before it, and the ends that are proved of the start."""
         best = {}
         for at, (bound, done, state) in enumerate(lemmas):
-            if any(ends + best.get((done + 1, next_state), 0) < bound for next_state, ends in self.behind(done, state)):
+            if done >= len(self.choices) or any(ends + best.get((done + 1, next_state), 0) < bound for next_state, ends in self.behind(done, state)):
                 return at, None
             best[done, state] = max(bound, best.get((done, state), 0))
         return None, best.get((0, START), 0)
