@@ -19,8 +19,8 @@ pub enum Searched {
         row: Arrangement,
         certificate: Certificate,
     },
-    /// The evidence proves that each row has at least `proved` gaps. The search spent its budget. Or, by trails, each
-    /// row has more gaps, and lemmas prove no more.
+    /// The evidence proves that each row has at least `proved` gaps. The search for it spent its budget. Or, by trails,
+    /// no search with pools proves more, and a later search spent its budget or each row has more gaps.
     Open {
         certificate: Certificate,
         proved: u32,

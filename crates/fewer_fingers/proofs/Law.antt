@@ -1,15 +1,16 @@
--- The columns of an arrangement without what is left out arrange the other fingers, with no more gaps.
-use Rattle.std.proofs.Common.{ℕ, ◌≡◌, ◌<◌, ◌≤◌, ◌==◌, max, List, length, Option, Some, None, option_map, map}
-use Rattle.std.proofs.Common.{refl, sym, ap, subst, arith, ◌∙◌, inl, inr, All, Contains, IsPermutation}
-use Rattle.std.proofs.lemmas.Bool.{cases_Bool, eq-eqb}
+-- The columns of an arrangement in which a finger stands without what is left out: they arrange the fingers that stay.
+use Rattle.std.proofs.Common.{ℕ, ◌≡◌, ◌-◌, ◌<◌, ◌≤◌, ◌==◌, true, false, cond, max, List, length, Option, Some, None}
+use Rattle.std.proofs.Common.{option_map, map, refl, sym, ap, subst, arith, ◌∙◌, inl, inr, Contains, IsPermutation}
+use Rattle.std.proofs.Common.{count_by}
+use Rattle.std.proofs.lemmas.Bool.{cases_Bool}
 use Rattle.std.proofs.lemmas.List.{length-map}
 use Rattle.std.proofs.lemmas.List.Elements.{All-contains}
-use Rattle.std.proofs.lemmas.List.Sorted.{All-permutation, length_permutation}
+use Rattle.std.proofs.lemmas.List.Sorted.{All-permutation, sum_by-IsPermutation}
 use Rattle.std.proofs.lemmas.List.Sums.{length-filter}
 use Rattle.cell_num.specs.declared.finger.Row.{Row}
 use Rattle.cell_num.specs.declared.finger.Row.TheVariants.{P, N}
 use Rattle.cell_num.specs.declared.finger.Fingers.{Fingers}
-use Rattle.cell_num.specs.Fingers.{AreFingers, IsFinger, columns_of, on_gate}
+use Rattle.cell_num.specs.Fingers.{AreFingers, IsFinger, on_gate, sum_below}
 use Rattle.cell_num.proofs.Lists.{all_from_contains, contains_filter_map}
 use Rattle.row_model.specs.declared.column.Placed.{Placed}
 use Rattle.row_model.specs.declared.column.Column.{Column}
@@ -18,16 +19,21 @@ use Rattle.row_model.specs.Gaps.{gaps_of}
 use Rattle.row_model.specs.Tests.{same_finger}
 use Rattle.row_model.proofs.Decide.{finger_decides}
 use Rattle.row_state.specs.Order.{gate_key}
-use Rattle.trail_state.specs.Choices.{fingers_on, is_on}
+use Rattle.trail_state.specs.Choices.{is_on}
 use Rattle.trail_state.proofs.Grouped.{columns_of_gate, columns_on, gate_arranges, gate_at, permutation_passing}
-use Rattle.trail_state.proofs.Members.{mapped, passes_to}
-use Rattle.trail_state.proofs.Opened.{fewer_fingers}
+use Rattle.trail_state.proofs.Sizes.{sum_keys}
 use Rattle.trail_check.specs.Accepted.{IsLow}
 use Rattle.fewer_fingers.specs.declared.fewer.LeftOut.{LeftOut}
-use Rattle.fewer_fingers.specs.Fewer.{MayLeave, staying, is_out, staying_in, without_in}
-use Rattle.fewer_fingers.proofs.Thinned.{fewer_of, n_beside, n_thinned, p_beside, p_thinned, stays, thin, thin_column}
-use Rattle.fewer_fingers.proofs.Thinned.{thin_here, thinned, turned}
-use Rattle.fewer_fingers.proofs.Counts.{HaveAsMany, as_many, fingers_stay, same_columns}
+use Rattle.fewer_fingers.specs.Fewer.{columns_lost, is_out, staying, staying_in, without_in}
+use Rattle.fewer_fingers.proofs.Counts.{all_stay, none_stay, sum_same_within}
+use Rattle.fewer_fingers.proofs.Dropped.{gaps_without}
+use Rattle.fewer_fingers.proofs.Filled.{filled}
+use Rattle.fewer_fingers.proofs.Kept.{gate_left, kept, kept_below, kept_beside, kept_columns, kept_fingers, same_on}
+use Rattle.fewer_fingers.proofs.Thinned.{fewer_of, stays, thinned}
+
+-- the columns that the fingers on a gate need
+abbrev most_on : Fingers → ℕ → ℕ
+most_on f g = max (on_gate g f.p) (on_gate g f.n)
 
 module _ (f : Fingers) (ok : AreFingers f) (row : List Column) (arranges : IsArrangement row f) where
   p_finger : (c : Column) (x : Placed) → Contains row c → c.p ≡ Some x → IsFinger P f.nets x.finger
@@ -50,111 +56,91 @@ module _ (f : Fingers) (ok : AreFingers f) (row : List Column) (arranges : IsArr
   gate_below c None (Some y) there is_x is_y one = (n_finger c y there is_y).gate
   gate_below c None None there is_x is_y one = absurd one
 
-  is_column : (c : Column) → Contains row c → IsColumn c
-  is_column c there = All-contains IsColumn row c arranges.columns there
-
   net_of : (c : Column) → Contains row c → gate_at c < f.nets
-  net_of c there = gate_below c c.p c.n there refl refl (is_column c there)
+  net_of c there = gate_below c c.p c.n there refl refl (All-contains IsColumn row c arranges.columns there)
 
-  -- a row with an empty place has fewer fingers on the gate than the other
-  module _ (c : Column) (there : Contains row c) where
-    on_it : IsArrangement (columns_on (gate_at c) row) (fingers_on (gate_at c) f)
-    on_it = gate_arranges f row arranges (all_from_contains (λ (d : Column). gate_at d < f.nets) row net_of) (gate_at c)
-        (net_of c there)
+  -- the columns of a gate are as many as its fingers need
+  columns_are : (g : ℕ) → g < f.nets → length (columns_on g row) ≡ most_on f g
+  columns_are g within =
+      (gate_arranges f row arranges (all_from_contains (λ (c : Column). gate_at c < f.nets) row net_of) g within).fewest
+      ∙ columns_of_gate f g within
 
-    columns_are : length (columns_on (gate_at c) row) ≡ max (on_gate (gate_at c) f.p) (on_gate (gate_at c) f.n)
-    columns_are = on_it.fewest ∙ columns_of_gate f (gate_at c) (net_of c there)
+  p_count : (g : ℕ) → on_gate g (fingers_in P row) ≡ on_gate g f.p
+  p_count g = sum_by-IsPermutation (λ x. cond (is_on g x) 1 0) f.p (fingers_in P row) arranges.p
 
-    among : Contains (columns_on (gate_at c) row) c
-    among = passes_to (λ (d : Column). gate_at d == gate_at c) row c there (eq-eqb (gate_at c) (gate_at c) refl)
-
-    p_fewer : c.p ≡ None → on_gate (gate_at c) f.p < on_gate (gate_at c) f.n
-    p_fewer none = omega (
-      arith,
-      columns_are,
-      fewer_fingers P (columns_on (gate_at c) row) c among none,
-      length_permutation (fingers_on (gate_at c) f).p (fingers_in P (columns_on (gate_at c) row)) on_it.p,
-      length-filter (is_on (gate_at c)) f.p,
-    )
-
-    n_fewer : c.n ≡ None → on_gate (gate_at c) f.n < on_gate (gate_at c) f.p
-    n_fewer none = omega (
-      arith,
-      columns_are,
-      fewer_fingers N (columns_on (gate_at c) row) c among none,
-      length_permutation (fingers_on (gate_at c) f).n (fingers_in N (columns_on (gate_at c) row)) on_it.n,
-      length-filter (is_on (gate_at c)) f.n,
-    )
+  n_count : (g : ℕ) → on_gate g (fingers_in N row) ≡ on_gate g f.n
+  n_count g = sum_by-IsPermutation (λ x. cond (is_on g x) 1 0) f.n (fingers_in N row) arranges.n
 
   module _ (out : LeftOut) where
-    -- beside an empty place nothing is left out
-    p_keeps : HaveAsMany P out f → (c : Column) (o : Option Placed) → Contains row c → c.p ≡ o → c.n ≡ None
-        → thin out o ≡ o
-    p_keeps enough c None there is none = refl
-    p_keeps enough c (Some x) there is none =
-        let gate : gate_at c ≡ x.finger.gate.0 = ap (λ o. gate_key o c.n) is in
-        elim (cases_Bool (is_out out x.finger.gate.0)) [
-          | inl gone ↦ absurd (omega (
-            arith,
-            enough (gate_at c) (ap (is_out out) gate ∙ gone),
-            n_fewer c there none,
-          ))
-          | inr here ↦ thin_here out x here
+    -- so are those that are kept
+    gone_are : (r : Row) (g : ℕ) → is_out out g ≡ true → length (columns_on g (kept r out row))
+        ≡ most_on (without_in r out f) g
+    gone_are P g gone =
+        omega (arith, gate_left P out row arranges.columns g gone, n_count g, none_stay out g f.p gone)
+    gone_are N g gone =
+        omega (arith, gate_left N out row arranges.columns g gone, p_count g, none_stay out g f.n gone)
+
+    here_are : (r : Row) (g : ℕ) → g < f.nets → is_out out g ≡ false → length (columns_on g (kept r out row))
+        ≡ most_on (without_in r out f) g
+    here_are P g within here =
+        omega (
+          arith,
+          ap length (same_on P out g row arranges.columns here),
+          columns_are g within,
+          all_stay out g f.p here,
+        )
+    here_are N g within here =
+        omega (
+          arith,
+          ap length (same_on N out g row arranges.columns here),
+          columns_are g within,
+          all_stay out g f.n here,
+        )
+
+    kept_on : (r : Row) (g : ℕ) → g < f.nets → count_by (λ (c : Column). gate_at c == g) (kept r out row)
+        ≡ most_on (without_in r out f) g
+    kept_on r g within =
+        sym (length-filter (λ (c : Column). gate_at c == g) (kept r out row))
+        ∙ elim (cases_Bool (is_out out g)) [
+          | inl gone ↦ gone_are r g gone
+          | inr here ↦ here_are r g within here
         ]
 
-    n_keeps : HaveAsMany N out f → (c : Column) (o : Option Placed) → Contains row c → c.n ≡ o → c.p ≡ None
-        → thin out o ≡ o
-    n_keeps enough c None there is none = refl
-    n_keeps enough c (Some x) there is none =
-        let gate : gate_at c ≡ x.finger.gate.0 = ap (λ o. gate_key o c.n) none ∙ ap (gate_key None) is in
-        elim (cases_Bool (is_out out x.finger.gate.0)) [
-          | inl gone ↦ absurd (omega (
-            arith,
-            enough (gate_at c) (ap (is_out out) gate ∙ gone),
-            p_fewer c there none,
-          ))
-          | inr here ↦ thin_here out x here
-        ]
+    kept_long : (r : Row) → length (kept r out row) ≡ sum_below (most_on (without_in r out f)) f.nets
+    kept_long r =
+        sym (sum_keys gate_at (kept r out row) f.nets (kept_below r out row arranges.columns f.nets net_of))
+        ∙ sum_same_within (λ g. count_by (λ (c : Column). gate_at c == g) (kept r out row))
+        (most_on (without_in r out f)) f.nets (kept_on r)
 
-    thinned_column : (r : Row) → HaveAsMany r out f → (c : Column) → Contains row c → IsColumn (thinned r out c)
-    thinned_column P enough c there =
-        thin_column out c.p c.n (is_column c there) (p_keeps enough c c.p there refl)
-    thinned_column N enough c there =
-        turned (thin out c.n) c.p (thin_column out c.n c.p (turned c.p c.n (is_column c there))
-        (n_keeps enough c c.n there refl))
-
-    thinned_columns : (r : Row) → HaveAsMany r out f → All IsColumn (map (thinned r out) row)
-    thinned_columns r enough = all_from_contains IsColumn (map (thinned r out) row)
-        (mapped IsColumn (thinned r out) row (thinned_column r enough))
-
-    as_long : (r : Row) → HaveAsMany r out f → length (map (thinned r out) row) ≡ columns_of (without_in r out f)
-    as_long r enough = length-map row (thinned r out) ∙ arranges.fewest ∙ sym (same_columns r out f enough)
-
-    thinned_arranges : (r : Row) → HaveAsMany r out f → IsArrangement (map (thinned r out) row) (without_in r out f)
-    thinned_arranges P enough = record {
-      columns = thinned_columns P enough;
-      p = subst (IsPermutation (staying_in out f.p)) (sym (p_thinned out row))
+    pub kept_arranges : (r : Row) → IsArrangement (kept r out row) (without_in r out f)
+    kept_arranges P = record {
+      columns = kept_columns P out row arranges.columns;
+      p = subst (IsPermutation (staying_in out f.p)) (sym (kept_fingers P out row))
           (permutation_passing same_finger finger_decides (stays out) f.p (fingers_in P row) arranges.p);
-      n = subst (IsPermutation f.n) (sym (n_beside out row)) arranges.n;
-      fewest = as_long P enough;
+      n = subst (IsPermutation f.n) (sym (kept_beside P out row)) arranges.n;
+      fewest = kept_long P;
     }
-    thinned_arranges N enough = record {
-      columns = thinned_columns N enough;
-      p = subst (IsPermutation f.p) (sym (p_beside out row)) arranges.p;
-      n = subst (IsPermutation (staying_in out f.n)) (sym (n_thinned out row))
+    kept_arranges N = record {
+      columns = kept_columns N out row arranges.columns;
+      p = subst (IsPermutation f.p) (sym (kept_beside N out row)) arranges.p;
+      n = subst (IsPermutation (staying_in out f.n)) (sym (kept_fingers N out row))
           (permutation_passing same_finger finger_decides (stays out) f.n (fingers_in N row) arranges.n);
-      fewest = as_long N enough;
+      fewest = kept_long N;
     }
 
-pub staying_fingers : (f : Fingers) → AreFingers f → (out : Option LeftOut) → MayLeave out f
-    → AreFingers (staying out f)
-staying_fingers f ok None may = ok
-staying_fingers f ok (Some out) may = fingers_stay out.row out f ok (as_many out f may)
-
-pub fewer_law : (f : Fingers) → AreFingers f → (out : Option LeftOut) → MayLeave out f → (gaps : ℕ)
-    → IsLow (staying out f) gaps → IsLow f gaps
-fewer_law f ok None may gaps low row arranges = low row arranges
-fewer_law f ok (Some out) may gaps low row arranges =
-    let least : gaps ≤ gaps_of (map (thinned out.row out) row) =
-    low (map (thinned out.row out) row) (thinned_arranges f ok row arranges out out.row (as_many out f may)) in
-    omega (arith, least, fewer_of out.row out row)
+pub fewer_law : (f : Fingers) → AreFingers f → (out : Option LeftOut) → (gaps : ℕ) → IsLow (staying out f) gaps
+    → IsLow f (gaps - columns_lost f (staying out f))
+fewer_law f ok None gaps low row arranges = let least : gaps ≤ gaps_of row = low row arranges in omega (arith, least)
+fewer_law f ok (Some out) gaps low row arranges =
+    let stay : IsArrangement (kept out.row out row) (without_in out.row out f) =
+    kept_arranges f ok row arranges out out.row in
+    let least : gaps ≤ gaps_of (kept out.row out row) = low (kept out.row out row) stay in
+    omega (
+      arith,
+      least,
+      gaps_without filled (map (thinned out.row out) row),
+      fewer_of out.row out row,
+      length-map row (thinned out.row out),
+      arranges.fewest,
+      stay.fewest,
+    )

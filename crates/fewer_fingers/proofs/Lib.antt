@@ -1,4 +1,6 @@
 pub mod Counts
-pub mod Decided
+pub mod Dropped
+pub mod Filled
+pub mod Kept
 pub mod Law
 pub mod Thinned

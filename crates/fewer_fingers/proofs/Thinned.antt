@@ -1,19 +1,19 @@
 -- Columns without the fingers that are left out: which fingers stand in them, and their gaps.
 use Rattle.std.proofs.Common.{ℕ, ◌≡◌, ◌≤◌, Bool, true, false, not, if◌then◌else◌, cond, List, [], ◌∷◌}
-use Rattle.std.proofs.Common.{Option, Some, None, option_map, map, refl, sym, ap, subst, arith, ◌∙◌, inl, inr, ◌⊎◌}
-use Rattle.std.specs.List.{cons_option, zip}
+use Rattle.std.proofs.Common.{Option, Some, None, option_map, map, refl, sym, ap, arith, ◌∙◌, inl, inr, ◌⊎◌}
+use Rattle.std.specs.List.{cons_option}
 use Rattle.std.proofs.lemmas.Bool.{both_ways, cases_Bool, or_cases, or_left, or_right}
 use Rattle.cell_num.specs.declared.finger.Row.{Row}
 use Rattle.cell_num.specs.declared.finger.Row.TheVariants.{P, N}
 use Rattle.cell_num.specs.declared.finger.Finger.{Finger}
-use Rattle.cell_num.proofs.Permutations.{count_cons}
 use Rattle.row_model.specs.declared.column.Placed.{Placed}
 use Rattle.row_model.specs.declared.column.Column.{Column}
-use Rattle.row_model.specs.Arrangement.{AreOneColumn, fingers_in}
+use Rattle.row_model.specs.Arrangement.{fingers_in, place}
 use Rattle.row_model.specs.Gaps.{facing_differs, gaps_of, is_gap}
 use Rattle.trail_state.proofs.Members.{filter_off, filter_on}
 use Rattle.fewer_fingers.specs.declared.fewer.LeftOut.{LeftOut}
 use Rattle.fewer_fingers.specs.Fewer.{is_out, staying_in}
+use Rattle.fewer_fingers.proofs.Dropped.{gaps_more}
 
 -- the finger is not left out
 abbrev pub stays : LeftOut → Finger → Bool
@@ -36,7 +36,7 @@ pub thin_here : (out : LeftOut) (x : Placed) → is_out out x.finger.gate.0 ≡ 
 thin_here out x e = rw e refl
 
 -- a place is empty or as before
-thin_is : (out : LeftOut) (o : Option Placed) → (thin out o ≡ None) ⊎ (thin out o ≡ o)
+pub thin_is : (out : LeftOut) (o : Option Placed) → (thin out o ≡ None) ⊎ (thin out o ≡ o)
 thin_is out None = inl refl
 thin_is out (Some x) = elim (cases_Bool (is_out out x.finger.gate.0)) [
   | inl gone ↦ inl (thin_gone out x gone)
@@ -58,47 +58,36 @@ thin_first out (Some x) fs =
           ∙ sym (filter_on (stays out) x.finger fs (ap not here))
     ]
 
-pub p_thinned : (out : LeftOut) (cs : List Column) → fingers_in P (map (thinned P out) cs)
-    ≡ staying_in out (fingers_in P cs)
-p_thinned out [] = refl
-p_thinned out (c ∷ cs) =
-    ap (cons_option (option_map (λ (x : Placed). x.finger) (thin out c.p))) (p_thinned out cs)
-    ∙ thin_first out c.p (fingers_in P cs)
+-- A column's place of the row is thinned, and that of the other row is as before.
+thinned_at : (r : Row) (out : LeftOut) (c : Column) → place r (thinned r out c) ≡ thin out (place r c)
+thinned_at P out c = refl
+thinned_at N out c = refl
 
-pub n_thinned : (out : LeftOut) (cs : List Column) → fingers_in N (map (thinned N out) cs)
-    ≡ staying_in out (fingers_in N cs)
-n_thinned out [] = refl
-n_thinned out (c ∷ cs) =
-    ap (cons_option (option_map (λ (x : Placed). x.finger) (thin out c.n))) (n_thinned out cs)
-    ∙ thin_first out c.n (fingers_in N cs)
+abbrev pub other : Row → Row
+other P = N
+other N = P
 
--- those of the other row are as before
-pub p_beside : (out : LeftOut) (cs : List Column) → fingers_in P (map (thinned N out) cs) ≡ fingers_in P cs
-p_beside out [] = refl
-p_beside out (c ∷ cs) = ap (cons_option (option_map (λ (x : Placed). x.finger) c.p)) (p_beside out cs)
+thinned_beside : (r : Row) (out : LeftOut) (c : Column) → place (other r) (thinned r out c) ≡ place (other r) c
+thinned_beside P out c = refl
+thinned_beside N out c = refl
 
-pub n_beside : (out : LeftOut) (cs : List Column) → fingers_in N (map (thinned P out) cs) ≡ fingers_in N cs
-n_beside out [] = refl
-n_beside out (c ∷ cs) = ap (cons_option (option_map (λ (x : Placed). x.finger) c.n)) (n_beside out cs)
+abbrev add_finger : List Finger → Option Placed → List Finger
+add_finger fs o = cons_option (option_map (λ (x : Placed). x.finger) o) fs
 
--- Where a place is emptied only beside a finger, a column stays one.
-alone : (o q : Option Placed) → AreOneColumn o q → (q ≡ None → o ≡ None) → AreOneColumn None q
-alone None q one empty = one
-alone (Some x) None one empty = absurd (let e : Some x ≡ None = empty refl in cc)
-alone (Some x) (Some y) one empty = one.2
+pub fingers_thinned : (r : Row) (out : LeftOut) (cs : List Column) → fingers_in r (map (thinned r out) cs)
+    ≡ staying_in out (fingers_in r cs)
+fingers_thinned r out [] = refl
+fingers_thinned r out (c ∷ cs) =
+    ap (λ fs. add_finger fs (place r (thinned r out c))) (fingers_thinned r out cs)
+    ∙ ap (add_finger (staying_in out (fingers_in r cs))) (thinned_at r out c)
+    ∙ thin_first out (place r c) (fingers_in r cs)
 
-pub turned : (o q : Option Placed) → AreOneColumn o q → AreOneColumn q o
-turned None None one = one
-turned None (Some y) one = one
-turned (Some x) None one = one
-turned (Some x) (Some y) one = (sym one.0, one.2, one.1)
-
-pub thin_column : (out : LeftOut) (o q : Option Placed) → AreOneColumn o q → (q ≡ None → thin out o ≡ o)
-    → AreOneColumn (thin out o) q
-thin_column out o q one keeps = elim (thin_is out o) [
-  | inl gone ↦ subst (λ v. AreOneColumn v q) (sym gone) (alone o q one (λ e. sym (keeps e) ∙ gone))
-  | inr same ↦ subst (λ v. AreOneColumn v q) (sym same) one
-]
+pub fingers_beside : (r : Row) (out : LeftOut) (cs : List Column) → fingers_in (other r) (map (thinned r out) cs)
+    ≡ fingers_in (other r) cs
+fingers_beside r out [] = refl
+fingers_beside r out (c ∷ cs) =
+    ap (λ fs. add_finger fs (place (other r) (thinned r out c))) (fingers_beside r out cs)
+    ∙ ap (add_finger (fingers_in (other r) cs)) (thinned_beside r out c)
 
 none_before : (b : Option Placed) → facing_differs None b ≡ false
 none_before None = refl
@@ -145,8 +134,7 @@ fewer_of r out (c ∷ d ∷ ds) =
     omega (
       arith,
       fewer_of r out (d ∷ ds),
-      count_cons is_gap (thinned r out c, thinned r out d)
-          (zip (map (thinned r out) (d ∷ ds)) (map (thinned r out) ds)),
-      count_cons is_gap (c, d) (zip (d ∷ ds) ds),
+      gaps_more (thinned r out c) (thinned r out d) (map (thinned r out) ds),
+      gaps_more c d ds,
       bit_le (is_gap (thinned r out c, thinned r out d)) (is_gap (c, d)) (was_gap r out c d),
     )

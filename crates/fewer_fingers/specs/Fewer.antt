@@ -1,12 +1,12 @@
 -- Fingers of which those of one row on some gates are left out.
-use Rattle.std.specs.Prelude.{ℕ, ◌≡◌, ◌==◌, Bool, false, not, List, Option, Some, None, All}
+use Rattle.std.specs.Prelude.{ℕ, ◌-◌, ◌==◌, Bool, not, List, Option, Some, None}
 use Rattle.std.specs.List.{filter, list_any}
 use Rattle.cell_num.specs.declared.net.NetNo.{NetNo}
 use Rattle.cell_num.specs.declared.finger.Row.{Row}
 use Rattle.cell_num.specs.declared.finger.Row.TheVariants.{P, N}
 use Rattle.cell_num.specs.declared.finger.Finger.{Finger}
 use Rattle.cell_num.specs.declared.finger.Fingers.{Fingers}
-use Rattle.open_gates.specs.Open.{has_more}
+use Rattle.cell_num.specs.Fingers.{columns_of}
 use Rattle.fewer_fingers.specs.declared.fewer.LeftOut.{LeftOut}
 
 abbrev pub is_out : LeftOut → ℕ → Bool
@@ -24,15 +24,11 @@ without_in N out f = record { nets = f.nets; p = f.p; n = staying_in out f.n }
 abbrev pub without : LeftOut → Fingers → Fingers
 without out f = without_in out.row out f
 
--- None of the gates has more fingers in the row than in the other one. So each of its columns has one of the other row.
-abbrev pub MayLeaveOut : LeftOut → Fingers → Type 0
-MayLeaveOut out f = All (λ (g : NetNo). has_more out.row f g ≡ false) out.gates
-
 -- the fingers that stay, where any are left out
 abbrev pub staying : Option LeftOut → Fingers → Fingers
 staying None f = f
 staying (Some out) f = without out f
 
-abbrev pub MayLeave : Option LeftOut → Fingers → Type 0
-MayLeave None f = Unit {0}
-MayLeave (Some out) f = MayLeaveOut out f
+-- how many columns less the others need: those on which no finger stays
+abbrev pub columns_lost : Fingers → Fingers → ℕ
+columns_lost f others = columns_of f - columns_of others

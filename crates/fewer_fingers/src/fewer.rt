@@ -1,11 +1,8 @@
-ghost use Rattle.std.specs.Prelude.{◌≡◌, ◌↔◌, IfOk, IsTrue, not};
-ghost use Rattle.std.specs.List.{list_all};
-ghost use Rattle.cell_num.specs.declared.net.NetNo.{NetNo as NetNoOf};
-ghost use Rattle.open_gates.specs.Open.{has_more};
-ghost use Rattle.fewer_fingers.specs.Fewer.{MayLeave, MayLeaveOut, is_out, staying, staying_in, without, without_in};
+ghost use Rattle.std.specs.Prelude.{◌≡◌, ◌≤◌, IfOk};
+ghost use Rattle.cell_num.specs.Fingers.{AreFingers};
+ghost use Rattle.fewer_fingers.specs.Fewer.{columns_lost, is_out, staying, staying_in, without, without_in};
 
-use cell_num::{Finger, Fingers, List, NetNo, NoMemory, Row};
-use open_gates::has_more;
+use cell_num::{Finger, Fingers, List, NetNo, NoMemory, Row, columns_of};
 use std::alloc::{AllocError, Global};
 
 /// Fingers that are left out: those of the row on these gates.
@@ -47,28 +44,12 @@ fn without_in(
     }
 }
 
-fn none_has_more(fingers: &Fingers, out: &LeftOut) -> bool
-    ensures { result ≡ list_all (λ (g : NetNoOf). not (has_more out.now.row fingers.now g)) out.now.gates }
-{
-    out.gates
-        .as_slice()
-        .iter()
-        .all(|gate| !has_more(out.row, fingers, gate))
-}
-
 impl LeftOut {
     // Whether fingers on the gate are left out.
     fn has(&self, gate: u32) -> bool
         ensures { result ≡ is_out self.now gate }
     {
         self.gates.as_slice().iter().any(|other| other.0 == gate)
-    }
-
-    // Whether none of the gates has more fingers in the row than in the other one.
-    fn may_leave_out(&self, fingers: &Fingers) -> bool
-        ensures { IsTrue result ↔ MayLeaveOut self.now fingers.now }
-    {
-        none_has_more(fingers, self)
     }
 
     // The fingers that stay.
@@ -91,7 +72,8 @@ fn copy(fingers: &Fingers) -> Result<Fingers, NoMemory>
 
 /// The fingers that stay.
 pub fn staying(alloc: Global, out: &Option<LeftOut>, fingers: &Fingers) -> Result<Fingers, NoMemory>
-    ensures { IfOk result (λ others. others ≡ staying out.now fingers.now) }
+    ensures staying { IfOk result (λ others. others ≡ staying out.now fingers.now) }
+    ensures fingers { AreFingers fingers.now → IfOk result AreFingers }
 {
     match out {
         Some(out) => out.without(alloc, fingers),
@@ -99,12 +81,12 @@ pub fn staying(alloc: Global, out: &Option<LeftOut>, fingers: &Fingers) -> Resul
     }
 }
 
-/// Whether no gate of which fingers are left out has more in their row than in the other one.
-pub fn may_leave(out: &Option<LeftOut>, fingers: &Fingers) -> bool
-    ensures { IsTrue result ↔ MayLeave out.now fingers.now }
+/// How many columns less the others need than the fingers.
+pub fn columns_lost(fingers: &Fingers, others: &Fingers) -> u32
+    requires fingers { AreFingers fingers.now }
+    requires others { AreFingers others.now }
+    ensures lost { result ≡ columns_lost fingers.now others.now }
+    ensures few { result ≤ 32 }
 {
-    match out {
-        Some(out) => out.may_leave_out(fingers),
-        None => true,
-    }
+    (columns_of(fingers) as u32).saturating_sub(columns_of(others) as u32)
 }

@@ -40,10 +40,13 @@ abbrev pub is_merged_net : Fingers → OpenGates → ℕ → Bool
 is_merged_net f opened net =
     list_any (λ (x : Finger). is_left_open opened x.gate.0 && has_net net x) (fingers_at opened.row f)
 
+-- The gate has more fingers in one row than in the other: it has half columns.
+abbrev pub is_uneven : Fingers → ℕ → Bool
+is_uneven f gate = not (on_gate gate f.p == on_gate gate f.n)
+
 -- the gate has half columns, and is none of those that are filled
 abbrev pub is_unfilled : Fingers → List NetNo → NetNo → Bool
-is_unfilled f fill gate =
-    not (on_gate gate.0 f.p == on_gate gate.0 f.n) && not (list_any (λ (g : NetNo). g.0 == gate.0) fill)
+is_unfilled f fill gate = is_uneven f gate.0 && not (list_any (λ (g : NetNo). g.0 == gate.0) fill)
 
 abbrev pub longer_row : Fingers → NetNo → Row
 longer_row f gate = if has_more P f gate then P else N

@@ -4,7 +4,7 @@ ghost use Rattle.cell_num.specs.declared.net.NetNo.{NetNo as NetNoOf};
 ghost use Rattle.trail_state.specs.Nodes.{has_net};
 ghost use Rattle.open_gates.specs.Listed.{nets_merged};
 ghost use Rattle.open_gates.specs.Open.{fingers_at, fingers_beside, has_more, have_more, is_left_open};
-ghost use Rattle.open_gates.specs.Open.{is_merged_net, is_unfilled, longer_row, of_gates, open_in, row_of};
+ghost use Rattle.open_gates.specs.Open.{is_merged_net, is_uneven, is_unfilled, longer_row, of_gates, open_in, row_of};
 
 use cell_num::{Finger, Fingers, List, NetNo, NoMemory, Row};
 use std::alloc::{AllocError, Global};
@@ -112,11 +112,17 @@ fn is_listed(gates: &[NetNo], gate: u32) -> bool
     gates.iter().any(|other| other.0 == gate)
 }
 
+/// Whether the gate has more fingers in one row than in the other: half columns.
+pub fn is_uneven(fingers: &Fingers, gate: u32) -> bool
+    ensures { result ≡ is_uneven fingers.now gate }
+{
+    count_on(fingers.p.as_slice(), gate) != count_on(fingers.n.as_slice(), gate)
+}
+
 fn is_unfilled(fingers: &Fingers, fill: &[NetNo], gate: &NetNo) -> bool
     ensures { result ≡ is_unfilled fingers.now fill.now gate.now }
 {
-    count_on(fingers.p.as_slice(), gate.0) != count_on(fingers.n.as_slice(), gate.0)
-        && !is_listed(fill, gate.0)
+    is_uneven(fingers, gate.0) && !is_listed(fill, gate.0)
 }
 
 fn unfilled_gates(

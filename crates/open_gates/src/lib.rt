@@ -9,5 +9,5 @@ mod level;
 pub mod merge;
 mod nodes;
 
-pub use gates::{OpenGates, has_more, row_of};
+pub use gates::{OpenGates, has_more, is_uneven, row_of};
 pub use level::{filled_levels_within, open_levels_within};

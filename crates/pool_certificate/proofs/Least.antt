@@ -1,6 +1,6 @@
 -- What an accepted certificate, and a refusal of a row, say of the gaps of each arrangement.
-use Rattle.std.specs.Prelude.{ℕ, ◌≡◌, ◌≢◌, ◌≤◌, Option, Some, None, Result, Ok, Err, IfErr, IfOk}
-use Rattle.std.proofs.Common.{arith, subst, sym, inl, inr}
+use Rattle.std.specs.Prelude.{ℕ, ◌≡◌, ◌≢◌, ◌≤◌, ◌-◌, Option, Some, None, Result, Ok, Err, IfErr, IfOk}
+use Rattle.std.proofs.Common.{arith, ap, subst, sym, ◌∙◌, inl, inr}
 use Rattle.cell_num.specs.declared.finger.Fingers.{Fingers}
 use Rattle.cell_num.specs.Fingers.{AreFingers}
 use Rattle.row_state.specs.declared.kind.Kinds.{Kinds}
@@ -11,16 +11,19 @@ use Rattle.trail_check.specs.declared.refusal.TrailRefusal.TheVariants as refusa
 use Rattle.trail_check.specs.Accepted.{IsLow}
 use Rattle.trail_check.specs.Justified.{gaps_proved}
 use Rattle.trail_check.specs.Refusal.{Proves}
-use Rattle.fewer_fingers.specs.Fewer.{MayLeave, staying}
-use Rattle.fewer_fingers.proofs.Law.{staying_fingers, fewer_law}
+use Rattle.fewer_fingers.specs.Fewer.{columns_lost, staying}
+use Rattle.fewer_fingers.proofs.Counts.{staying_fingers}
+use Rattle.fewer_fingers.proofs.Law.{fewer_law}
 use Rattle.fewer_log.specs.declared.certificate.FewerCertificate.{FewerCertificate}
 use Rattle.pool_check.specs.declared.refusal.PoolRefusal.{PoolRefusal}
 use Rattle.pool_check.specs.declared.refusal.PoolRefusal.TheVariants as cause
 use Rattle.pool_check.proofs.Low.{accepted_low as lemmas_low, accepted_true as lemmas_true}
-use Rattle.pool_certificate.specs.Accepted.{AreProved, AreTexts, AreTrueLemmas, IsAccepted, lemmas_of, open_of}
+use Rattle.pool_certificate.specs.Accepted.{AreProved, AreTexts, AreTrueLemmas, IsAccepted, IsFill, ProvesOfAll}
+use Rattle.pool_certificate.specs.Accepted.{lemmas_of, open_of}
 use Rattle.pool_certificate.specs.Refusal.{EndsRefused, lemma_line, refusal_of}
 
-accepted_few : (k : Kinds) (f : Fingers) (best gaps : ℕ) (row : Option Best) → BestPasses k f best row gaps → gaps ≤ best
+accepted_few : (k : Kinds) (f : Fingers) (best gaps : ℕ) (row : Option Best) → BestPasses k f best row gaps
+    → gaps ≤ best
 accepted_few k f best gaps None passes = absurd passes
 accepted_few k f best gaps (Some row) passes = omega (arith, passes.said, passes.least)
 
@@ -28,68 +31,68 @@ less : (f : Fingers) (gaps best : ℕ) → gaps ≤ best → IsLow f best → Is
 less f gaps best few low row arranges = omega (arith, few, low row arranges)
 
 module _ (f : Fingers) (c : FewerCertificate) where
-  -- nor has one of all fingers
-  counted_low : AreFingers f → MayLeave c.out f → (ends : ℕ) → AreProved (staying c.out f) c.pools ends
-      → IsLow f (gaps_proved ends)
-  counted_low ok may ends accepted =
-      fewer_law f ok c.out may (gaps_proved ends)
+  -- no arrangement of all fingers has fewer gaps than are proved
+  pub proves_low : AreFingers f → (proved : ℕ) → ProvesOfAll f c proved → IsLow f proved
+  proves_low ok proved h =
+      subst (IsLow f) (sym h.proved_is)
+      (fewer_law f ok c.out (gaps_proved h.ends)
       (lemmas_low (staying c.out f) (open_of (staying c.out f) c.pools) c.pools.order
-      (lemmas_of (staying c.out f) c.pools) (staying_fingers f ok c.out may) ends accepted)
+      (lemmas_of (staying c.out f) c.pools) (staying_fingers f ok c.out) h.ends h.lemmas))
 
-  -- no arrangement has fewer gaps
+  -- nor than an accepted row has
   pub accepted_low : AreFingers f → (gaps : ℕ) → IsAccepted f c gaps → IsLow f gaps
   accepted_low ok gaps h =
       let (k, of_f, kinds, passes) = h.passes in
-      less f gaps (gaps_proved h.ends) (accepted_few k f (gaps_proved h.ends) gaps c.pools.best passes)
-      (counted_low ok h.may h.ends h.lemmas)
+      less f gaps h.proved (accepted_few k f h.proved gaps c.pools.best passes) (proves_low ok h.proved h.lemmas)
 
   pub least_low : AreFingers f → (r : Result ℕ TrailRefusal) → IfOk r (IsAccepted f c) → IfOk r (IsLow f)
   least_low ok (Ok gaps) h = accepted_low ok gaps h
   least_low ok (Err why) h = tt
 
-  pub row_accepted : MayLeave c.out f → AreTexts (staying c.out f) c.pools → (ends least : ℕ) (r : Result ℕ TrailRefusal) → least ≡ gaps_proved ends
-      → AreProved (staying c.out f) c.pools ends
-      → IfOk r (λ gaps. WithKinds f (λ (k : Kinds). BestPasses k f least c.pools.best gaps))
-      → IfOk r (IsAccepted f c)
-  row_accepted may texts ends least (Ok gaps) is accepted passes = record {
-    may = may;
-    texts = texts;
+  -- what is found of the fingers that stay comes to this of all
+  pub proves_all : (others : Fingers) (ends proved : ℕ) → others ≡ staying c.out f → IsFill others c.pools
+      → AreTexts others c.pools → AreProved others c.pools ends → proved ≡ gaps_proved ends - columns_lost f others
+      → ProvesOfAll f c proved
+  proves_all others ends proved are fill texts lemmas is = record {
+    fill = subst (λ (o : Fingers). IsFill o c.pools) are fill;
+    texts = subst (λ (o : Fingers). AreTexts o c.pools) are texts;
     ends = ends;
-    lemmas = accepted;
-    passes = subst (λ (n : ℕ). WithKinds f (λ (k : Kinds). BestPasses k f n c.pools.best gaps)) is passes;
+    lemmas = subst (λ (o : Fingers). AreProved o c.pools ends) are lemmas;
+    proved_is = is ∙ ap (λ (o : Fingers). gaps_proved ends - columns_lost f o) are;
   }
-  row_accepted may texts ends least (Err why) is accepted passes = tt
+
+  pub row_accepted : (proved : ℕ) → ProvesOfAll f c proved → (r : Result ℕ TrailRefusal)
+      → IfOk r (λ gaps. WithKinds f (λ (k : Kinds). BestPasses k f proved c.pools.best gaps))
+      → IfOk r (IsAccepted f c)
+  row_accepted proved lemmas (Ok gaps) passes = record { proved = proved; lemmas = lemmas; passes = passes }
+  row_accepted proved lemmas (Err why) passes = tt
 
   -- all its lemmas are true
   pub accepted_true : (r : Result ℕ TrailRefusal) → IfOk r (IsAccepted f c)
       → IfOk r (λ _. AreTrueLemmas (staying c.out f) c.pools)
   accepted_true (Ok gaps) h =
       lemmas_true (staying c.out f) (open_of (staying c.out f) c.pools) c.pools.order
-      (lemmas_of (staying c.out f) c.pools) (Ok h.ends) h.lemmas
+      (lemmas_of (staying c.out f) c.pools) (Ok h.lemmas.ends) h.lemmas.lemmas
   accepted_true (Err why) h = tt
 
   -- a refusal of a row tells the gaps that are proved
-  pub refusal_low : AreFingers f → MayLeave c.out f → (ends : ℕ) → AreProved (staying c.out f) c.pools ends
-      → (why : TrailRefusal) → Proves (λ (told : ℕ). told ≡ gaps_proved ends) why → Proves (IsLow f) why
-  refusal_low ok may ends accepted refusal.Gates h = tt
-  refusal_low ok may ends accepted (refusal.Choices gate) h = tt
-  refusal_low ok may ends accepted (refusal.Line line) h = tt
-  refusal_low ok may ends accepted (refusal.Unproved line) h = tt
-  refusal_low ok may ends accepted (refusal.NoRow best) h =
-      subst (IsLow f) (sym h) (counted_low ok may ends accepted)
-  refusal_low ok may ends accepted refusal.NotArrangement h = tt
-  refusal_low ok may ends accepted (refusal.Gaps said counted) h = tt
-  refusal_low ok may ends accepted (refusal.NotLeast best said) h =
-      subst (IsLow f) (sym h) (counted_low ok may ends accepted)
-  refusal_low ok may ends accepted refusal.NoMemory h = tt
+  refusal_low : AreFingers f → (proved : ℕ) → ProvesOfAll f c proved → (why : TrailRefusal)
+      → Proves (λ (told : ℕ). told ≡ proved) why → Proves (IsLow f) why
+  refusal_low ok proved lemmas refusal.Gates h = tt
+  refusal_low ok proved lemmas (refusal.Choices gate) h = tt
+  refusal_low ok proved lemmas (refusal.Line line) h = tt
+  refusal_low ok proved lemmas (refusal.Unproved line) h = tt
+  refusal_low ok proved lemmas (refusal.NoRow best) h = subst (IsLow f) (sym h) (proves_low ok proved lemmas)
+  refusal_low ok proved lemmas refusal.NotArrangement h = tt
+  refusal_low ok proved lemmas (refusal.Gaps said counted) h = tt
+  refusal_low ok proved lemmas (refusal.NotLeast best said) h =
+      subst (IsLow f) (sym h) (proves_low ok proved lemmas)
+  refusal_low ok proved lemmas refusal.NoMemory h = tt
 
-  pub row_tells : AreFingers f → MayLeave c.out f → (ends least : ℕ) → least ≡ gaps_proved ends
-      → AreProved (staying c.out f) c.pools ends → (r : Result ℕ TrailRefusal)
-      → IfErr r (Proves (λ (told : ℕ). told ≡ least)) → IfErr r (Proves (IsLow f))
-  row_tells ok may ends least is accepted (Ok gaps) h = tt
-  row_tells ok may ends least is accepted (Err why) h =
-      refusal_low ok may ends accepted why
-      (subst (λ (n : ℕ). Proves (λ (told : ℕ). told ≡ n) why) is h)
+  pub row_tells : AreFingers f → (proved : ℕ) → ProvesOfAll f c proved → (r : Result ℕ TrailRefusal)
+      → IfErr r (Proves (λ (told : ℕ). told ≡ proved)) → IfErr r (Proves (IsLow f))
+  row_tells ok proved lemmas (Ok gaps) h = tt
+  row_tells ok proved lemmas (Err why) h = refusal_low ok proved lemmas why h
 
   told_none : (Says : ℕ → Type 0) (first : ℕ) (because : PoolRefusal) → Proves Says (refusal_of first because)
   told_none Says first cause.Order = tt

@@ -1,3 +1,4 @@
+pub mod Filled
 pub mod Least
 pub mod OtherLines
 pub mod Refusals

@@ -1,7 +1,7 @@
 -- What the refusals of lemmas and of a row come to, and that no certificate is accepted and refused for a fault.
-use Rattle.std.specs.Prelude.{ℕ, ◌≡◌, ◌≢◌, ◌≤◌, ◌<◌, List, Option, Some, None, All, length}
+use Rattle.std.specs.Prelude.{ℕ, ◌≡◌, ◌≢◌, ◌≤◌, ◌<◌, ◌-◌, List, Option, Some, None, All, length}
 use Rattle.std.specs.Prelude.{Result, Ok, Err, IfErr}
-use Rattle.std.proofs.Common.{arith, refl, sym, subst, ◌∙◌, inl, inr}
+use Rattle.std.proofs.Common.{arith, ap, refl, sym, subst, ◌∙◌, inl, inr}
 use Rattle.std.proofs.lemmas.List.Elements.{All-get_or}
 use Rattle.std.proofs.lemmas.Option.{get_or_from_slice_get, slice_get_within}
 use Rattle.cell_num.specs.declared.finger.Fingers.{Fingers}
@@ -20,7 +20,7 @@ use Rattle.trail_pools.specs.Leveled.{levels_of, pools_of}
 use Rattle.trail_pools.specs.State.{start}
 use Rattle.end_lemmas.specs.declared.lemma.EndLemma.{EndLemma}
 use Rattle.end_lemmas.specs.Justified.{AreEndsProved, IsAtStart}
-use Rattle.fewer_fingers.specs.Fewer.{MayLeave, staying}
+use Rattle.fewer_fingers.specs.Fewer.{columns_lost, staying}
 use Rattle.fewer_log.specs.declared.certificate.FewerCertificate.{FewerCertificate}
 use Rattle.pool_log.specs.declared.lemma.PoolLine.{PoolLine}
 use Rattle.pool_lines.specs.Texts.{IsTextOfState}
@@ -28,33 +28,34 @@ use Rattle.pool_check.specs.declared.refusal.PoolRefusal.{PoolRefusal}
 use Rattle.pool_check.specs.declared.refusal.PoolRefusal.TheVariants as cause
 use Rattle.pool_check.specs.Refusal.{IsFault as IsFaultOfLemmas, Refuses as RefusesLemmas}
 use Rattle.pool_check.proofs.Refusals.{faults_never as lemmas_never}
-use Rattle.pool_certificate.specs.Accepted.{AreProved, AreTexts, HasFewWaysOf, IsAccepted, IsNeverAccepted}
+use Rattle.pool_certificate.specs.Accepted.{HasFewWaysOf, IsAccepted, IsFill, IsNeverAccepted, ProvesOfAll}
 use Rattle.pool_certificate.specs.Accepted.{lemmas_of, open_of}
-use Rattle.pool_certificate.specs.Refusal.{AreLemmasRefused, AreTextsBefore, EndsRefused, IsFirstOther, IsForLine}
-use Rattle.pool_certificate.specs.Refusal.{IsRowRefused, LemmasRefused, Refuses, lemma_line, refusal_of}
+use Rattle.pool_certificate.specs.Refusal.{AreEndsRefused, AreLemmasRefused, AreTextsBefore, EndsRefused}
+use Rattle.pool_certificate.specs.Refusal.{IsFirstOther, IsForLine, IsRowRefused, LemmasRefused, Refuses, lemma_line}
+use Rattle.pool_certificate.specs.Refusal.{refusal_of}
 
 module _ (f : Fingers) (c : FewerCertificate) where
-  unproved_cause : MayLeave c.out f → (because : PoolRefusal)
+  unproved_cause : IsFill (staying c.out f) c.pools → (because : PoolRefusal)
       → AreTextsBefore (staying c.out f) c.pools because
       → RefusesLemmas (staying c.out f) (open_of (staying c.out f) c.pools) c.pools.order
       (lemmas_of (staying c.out f) c.pools) because
       → Refuses f c (refusal_of (lemma_line c.out) because)
-  unproved_cause may cause.Order texts h =
-      inr (may, record { because = cause.Order; why_is = refl; texts = texts; refused = h })
-  unproved_cause may (cause.Choices gate) texts h =
-      inr (may, record { because = cause.Choices gate; why_is = refl; texts = texts; refused = h })
-  unproved_cause may (cause.Unproved at) texts h =
-      inr (may, record { because = cause.Unproved at; why_is = refl; texts = texts; refused = h })
-  unproved_cause may cause.NoMemory texts h = tt
+  unproved_cause fill cause.Order texts h =
+      inr (fill, record { because = cause.Order; why_is = refl; texts = texts; refused = h })
+  unproved_cause fill (cause.Choices gate) texts h =
+      inr (fill, record { because = cause.Choices gate; why_is = refl; texts = texts; refused = h })
+  unproved_cause fill (cause.Unproved at) texts h =
+      inr (fill, record { because = cause.Unproved at; why_is = refl; texts = texts; refused = h })
+  unproved_cause fill cause.NoMemory texts h = tt
 
-  lemmas_cause : MayLeave c.out f → (why : TrailRefusal)
+  lemmas_cause : IsFill (staying c.out f) c.pools → (why : TrailRefusal)
       → AreLemmasRefused (staying c.out f) c.pools (lemma_line c.out) why → Refuses f c why
-  lemmas_cause may why h =
-      subst (Refuses f c) (sym h.why_is) (unproved_cause may h.because h.texts h.refused)
+  lemmas_cause fill why h =
+      subst (Refuses f c) (sym h.why_is) (unproved_cause fill h.because h.texts h.refused)
 
-  line_cause : MayLeave c.out f → (why : TrailRefusal) → IsForLine (staying c.out f) c.pools (lemma_line c.out) why
-      → Refuses f c why
-  line_cause may why (line, is, h) = subst (Refuses f c) (sym is) (may, h)
+  line_cause : IsFill (staying c.out f) c.pools → (why : TrailRefusal)
+      → IsForLine (staying c.out f) c.pools (lemma_line c.out) why → Refuses f c why
+  line_cause fill why (line, is, h) = subst (Refuses f c) (sym is) (fill, h)
 
   pub ends_refuse : (why : TrailRefusal) → EndsRefused f c why → Refuses f c why
   ends_refuse why h = elim h [
@@ -65,35 +66,39 @@ module _ (f : Fingers) (c : FewerCertificate) where
     ]
   ]
 
+  -- what refuses the fingers that stay refuses the certificate
+  pub ends_refused : (others : Fingers) (first : ℕ) (why : TrailRefusal) → others ≡ staying c.out f
+      → first ≡ lemma_line c.out → (why ≢ refusal.NoMemory → AreEndsRefused others c.pools first why)
+      → why ≢ refusal.NoMemory → EndsRefused f c why
+  ends_refused others first why are is refused other =
+      subst (λ (o : Fingers). AreEndsRefused o c.pools (lemma_line c.out) why) are
+      (subst (λ (n : ℕ). AreEndsRefused others c.pools n why) is (refused other))
+
   -- ---- the row
 
-  pub row_refuses : (ends : ℕ) (why : TrailRefusal) → MayLeave c.out f → AreTexts (staying c.out f) c.pools
-      → AreProved (staying c.out f) c.pools ends
-      → HasFewWaysOf (staying c.out f) c.pools
-      → WithKinds f (λ (k : Kinds). RowRefused k f (gaps_proved ends) c.pools.best why) → Refuses f c why
-  row_refuses ends refusal.Gates may texts accepted few (k, of_k, some_k, h) = absurd h
-  row_refuses ends (refusal.Choices gate) may texts accepted few (k, of_k, some_k, h) = absurd h
-  row_refuses ends (refusal.Line line) may texts accepted few (k, of_k, some_k, h) = absurd h
-  row_refuses ends (refusal.Unproved line) may texts accepted few (k, of_k, some_k, h) = absurd h
-  row_refuses ends (refusal.NoRow best) may texts accepted few h =
-      record { may = may; texts = texts; ends = ends; lemmas = accepted; few_ways = few; row = h }
-  row_refuses ends refusal.NotArrangement may texts accepted few h =
-      record { may = may; texts = texts; ends = ends; lemmas = accepted; few_ways = few; row = h }
-  row_refuses ends (refusal.Gaps said counted) may texts accepted few h =
-      record { may = may; texts = texts; ends = ends; lemmas = accepted; few_ways = few; row = h }
-  row_refuses ends (refusal.NotLeast best said) may texts accepted few h =
-      record { may = may; texts = texts; ends = ends; lemmas = accepted; few_ways = few; row = h }
-  row_refuses ends refusal.NoMemory may texts accepted few h = tt
+  pub row_refuses : (proved : ℕ) (why : TrailRefusal) → ProvesOfAll f c proved → HasFewWaysOf (staying c.out f) c.pools
+      → WithKinds f (λ (k : Kinds). RowRefused k f proved c.pools.best why) → Refuses f c why
+  row_refuses proved refusal.Gates lemmas few (k, of_k, some_k, h) = absurd h
+  row_refuses proved (refusal.Choices gate) lemmas few (k, of_k, some_k, h) = absurd h
+  row_refuses proved (refusal.Line line) lemmas few (k, of_k, some_k, h) = absurd h
+  row_refuses proved (refusal.Unproved line) lemmas few (k, of_k, some_k, h) = absurd h
+  row_refuses proved (refusal.NoRow best) lemmas few h =
+      record { proved = proved; lemmas = lemmas; few_ways = few; row = h }
+  row_refuses proved refusal.NotArrangement lemmas few h =
+      record { proved = proved; lemmas = lemmas; few_ways = few; row = h }
+  row_refuses proved (refusal.Gaps said counted) lemmas few h =
+      record { proved = proved; lemmas = lemmas; few_ways = few; row = h }
+  row_refuses proved (refusal.NotLeast best said) lemmas few h =
+      record { proved = proved; lemmas = lemmas; few_ways = few; row = h }
+  row_refuses proved refusal.NoMemory lemmas few h = tt
 
-  pub row_err : MayLeave c.out f → AreTexts (staying c.out f) c.pools → (ends least : ℕ) → least ≡ gaps_proved ends
-      → AreProved (staying c.out f) c.pools ends → HasFewWaysOf (staying c.out f) c.pools → (r : Result ℕ TrailRefusal)
+  pub row_err : (proved : ℕ) → ProvesOfAll f c proved → HasFewWaysOf (staying c.out f) c.pools
+      → (r : Result ℕ TrailRefusal)
       → IfErr r (λ why.
-      why ≢ refusal.NoMemory → WithKinds f (λ (k : Kinds). RowRefused k f least c.pools.best why))
+      why ≢ refusal.NoMemory → WithKinds f (λ (k : Kinds). RowRefused k f proved c.pools.best why))
       → IfErr r (λ why. why ≢ refusal.NoMemory → Refuses f c why)
-  row_err may texts ends least is accepted few (Ok gaps) h = tt
-  row_err may texts ends least is accepted few (Err why) h = λ other.
-      row_refuses ends why may texts accepted few
-      (subst (λ (n : ℕ). WithKinds f (λ (k : Kinds). RowRefused k f n c.pools.best why)) is (h other))
+  row_err proved lemmas few (Ok gaps) h = tt
+  row_err proved lemmas few (Err why) h = λ other. row_refuses proved why lemmas few (h other)
 
 -- ---- not both
 
@@ -164,28 +169,39 @@ texts_not pools levels lines at h texts =
 
 module _ (f : Fingers) (c : FewerCertificate) (gaps : ℕ) (is : IsAccepted f c gaps) where
   line_not : (line : ℕ) → Refuses f c (refusal.Line line) → ⊥
-  line_not line (may, h) =
+  line_not line (fill, h) =
       texts_not (pools_of (staying c.out f) (open_of (staying c.out f) c.pools))
-      (levels_of (staying c.out f) (open_of (staying c.out f) c.pools) c.pools.order) c.pools.lemmas h.at h.line is.texts
+      (levels_of (staying c.out f) (open_of (staying c.out f) c.pools) c.pools.order) c.pools.lemmas h.at h.line
+      is.lemmas.texts
 
-  unproved_not : (why : TrailRefusal) → AreLemmasRefused (staying c.out f) c.pools (lemma_line c.out) why → IsFault why → ⊥
+  unproved_not : (why : TrailRefusal) → AreLemmasRefused (staying c.out f) c.pools (lemma_line c.out) why
+      → IsFault why → ⊥
   unproved_not why h fault =
       lemmas_never (staying c.out f) (open_of (staying c.out f) c.pools) c.pools.order
       (lemmas_of (staying c.out f) c.pools) h.because (λ other. h.refused)
-      (fault_of_lemmas (lemma_line c.out) h.because (subst IsFault h.why_is fault)) is.ends is.lemmas
+      (fault_of_lemmas (lemma_line c.out) h.because (subst IsFault h.why_is fault)) is.lemmas.ends is.lemmas.lemmas
 
   lemmas_not : (why : TrailRefusal) → LemmasRefused f c why → IsFault why → ⊥
   lemmas_not why h fault = elim h [
-    | inl left ↦ left.0 is.may
+    | inl left ↦ left.0 is.lemmas.fill
     | inr others ↦ unproved_not why others.1 fault
   ]
 
+  -- the certificate proves one number of gaps
+  same_proved : (proved : ℕ) → ProvesOfAll f c proved → proved ≡ is.proved
+  same_proved proved h =
+      let same : h.ends ≡ is.lemmas.ends =
+      one_number start (lemmas_of (staying c.out f) c.pools) h.ends is.lemmas.ends h.lemmas.proved
+      is.lemmas.lemmas.proved in
+      h.proved_is
+      ∙ ap (λ (n : ℕ). gaps_proved n - columns_lost f (staying c.out f)) same
+      ∙ sym is.lemmas.proved_is
+
   row_not : (why : TrailRefusal) → IsRowRefused f c why → why ≢ refusal.NoMemory → ⊥
   row_not why h other =
-      let same : h.ends ≡ is.ends =
-      one_number start (lemmas_of (staying c.out f) c.pools) h.ends is.ends h.lemmas.proved is.lemmas.proved in
-      rows_not_both f (gaps_proved is.ends) c.pools.best gaps why is.passes
-      (subst (λ (n : ℕ). WithKinds f (λ (k : Kinds). RowRefused k f (gaps_proved n) c.pools.best why)) same h.row) other
+      rows_not_both f is.proved c.pools.best gaps why is.passes
+      (subst (λ (n : ℕ). WithKinds f (λ (k : Kinds). RowRefused k f n c.pools.best why)) (same_proved h.proved h.lemmas)
+      h.row) other
 
   -- no certificate is accepted that is refused for a fault
   pub not_both : (why : TrailRefusal) → Refuses f c why → IsFault why → ⊥

@@ -1,6 +1,7 @@
 -- What the lemmas of a certificate come to, for the fingers that they are about.
-use Rattle.std.specs.Prelude.{ℕ, ◌≡◌, ◌≢◌, ◌<◌, List, [], length}
+use Rattle.std.specs.Prelude.{ℕ, ◌≡◌, ◌≢◌, ◌<◌, ◌↔◌, Bool, false, IsTrue, List, [], length}
 use Rattle.std.proofs.Common.{arith, ap, refl, subst, ◌∙◌, inl, inr}
+use Rattle.std.proofs.lemmas.Bool.Decides.{not_from_Decides}
 use Rattle.std.proofs.lemmas.Option.{slice_get_within}
 use Rattle.cell_num.specs.declared.finger.Fingers.{Fingers}
 use Rattle.cell_num.specs.declared.net.NetNo.{NetNo}
@@ -14,7 +15,7 @@ use Rattle.pool_log.specs.declared.lemma.PoolLine.{PoolLine}
 use Rattle.pool_check.specs.declared.refusal.PoolRefusal.{PoolRefusal}
 use Rattle.pool_check.specs.declared.refusal.PoolRefusal.TheVariants as cause
 use Rattle.pool_check.specs.Refusal.{Refuses as RefusesLemmas}
-use Rattle.pool_certificate.specs.Accepted.{AreTexts, lemmas_of, open_of}
+use Rattle.pool_certificate.specs.Accepted.{AreTexts, IsFill, lemmas_of, open_of}
 use Rattle.pool_certificate.specs.Refusal.{AreEndsRefused, AreLemmasRefused, AreTextsBefore, IsForLine, refusal_of}
 
 -- a lemma that is not justified stands in the list
@@ -66,17 +67,22 @@ module _ (f : Fingers) (pools : OrderCertificate PoolLine) (first : ℕ) where
       (subst (λ (gs : List NetNo). RefusesLemmas f opened gs (lemmas_of f pools) why) order_is
       (refused some (lemmas_of f pools)))) is other
 
+  -- what is filled is refused
+  pub fill_refused : (b : Bool) → (IsTrue b ↔ IsFill f pools) → b ≡ false → AreEndsRefused f pools first refusal.Gates
+  fill_refused b decides off = inl (not_from_Decides b decides off, refl)
+
   -- where the lemmas are refused, all lines are texts
-  pub lemmas_refused : (why : PoolRefusal) (told : TrailRefusal) → AreTexts f pools
+  pub lemmas_refused : (why : PoolRefusal) (told : TrailRefusal) → IsFill f pools → AreTexts f pools
       → (why ≢ cause.NoMemory → RefusesLemmas f (open_of f pools) pools.order (lemmas_of f pools) why)
       → told ≡ refusal_of first why → told ≢ refusal.NoMemory → AreEndsRefused f pools first told
-  lemmas_refused why told texts refused is other =
-      inl (told_refused why told (texts_before why texts) refused is other)
+  lemmas_refused why told fill texts refused is other =
+      inr (fill, inl (told_refused why told (texts_before why texts) refused is other))
 
-  pub order_refused : (told : TrailRefusal) → (told ≢ refusal.NoMemory → AreLemmasRefused f pools first told)
+  pub order_refused : (told : TrailRefusal) → IsFill f pools
+      → (told ≢ refusal.NoMemory → AreLemmasRefused f pools first told)
       → told ≢ refusal.NoMemory → AreEndsRefused f pools first told
-  order_refused told refused other = inl (refused other)
+  order_refused told fill refused other = inr (fill, inl (refused other))
 
-  pub line_refused : (told : TrailRefusal) → (told ≢ refusal.NoMemory → IsForLine f pools first told)
+  pub line_refused : (told : TrailRefusal) → IsFill f pools → (told ≢ refusal.NoMemory → IsForLine f pools first told)
       → told ≢ refusal.NoMemory → AreEndsRefused f pools first told
-  line_refused told refused other = inr (refused other)
+  line_refused told fill refused other = inr (fill, inr (refused other))

@@ -6,21 +6,20 @@ use Rattle.log_check.specs.Accepted.{WithKinds}
 use Rattle.trail_state.specs.Levels.{IsOrder}
 use Rattle.trail_check.specs.declared.refusal.TrailRefusal.{TrailRefusal}
 use Rattle.trail_check.specs.declared.refusal.TrailRefusal.TheVariants as refusal
-use Rattle.trail_check.specs.Justified.{gaps_proved}
 use Rattle.trail_check.specs.Refusal.{RowRefused}
 use Rattle.trail_pools.specs.declared.level.PoolLevel.{PoolLevel}
 use Rattle.trail_pools.specs.declared.pools.Pools.{Pools}
 use Rattle.trail_pools.specs.Leveled.{levels_of, pools_of}
 use Rattle.order_log.specs.declared.certificate.OrderCertificate.{OrderCertificate}
 use Rattle.fewer_fingers.specs.declared.fewer.LeftOut.{LeftOut}
-use Rattle.fewer_fingers.specs.Fewer.{MayLeave, staying}
+use Rattle.fewer_fingers.specs.Fewer.{staying}
 use Rattle.fewer_log.specs.declared.certificate.FewerCertificate.{FewerCertificate}
 use Rattle.pool_log.specs.declared.lemma.PoolLine.{PoolLine}
 use Rattle.pool_lines.specs.Texts.{IsTextOfState}
 use Rattle.pool_check.specs.declared.refusal.PoolRefusal.{PoolRefusal}
 use Rattle.pool_check.specs.declared.refusal.PoolRefusal.TheVariants as cause
 use Rattle.pool_check.specs.Refusal.{Refuses as RefusesLemmas}
-use Rattle.pool_certificate.specs.Accepted.{AreProved, AreTexts, HasFewWaysOf, lemmas_of, open_of}
+use Rattle.pool_certificate.specs.Accepted.{AreTexts, HasFewWaysOf, IsFill, ProvesOfAll, lemmas_of, open_of}
 
 -- The line of the first lemma. Where fingers are left out, two lines are before those of other certificates.
 abbrev pub lemma_line : Option LeftOut → ℕ
@@ -61,30 +60,28 @@ pub record AreLemmasRefused (f : Fingers) (pools : OrderCertificate PoolLine) (f
   pub texts : AreTextsBefore f pools because
   pub refused : RefusesLemmas f (open_of f pools) pools.order (lemmas_of f pools) because
 
--- a gate of which fingers are left out has fewer in the other row
-abbrev pub IsOutRefused : Fingers → FewerCertificate → TrailRefusal → Type 0
-IsOutRefused f c why = (MayLeave c.out f → ⊥) × (why ≡ refusal.Gates)
+-- a gate that is filled has no half columns, or not all that stay open have more fingers in one row
+abbrev pub IsFillRefused : Fingers → OrderCertificate PoolLine → TrailRefusal → Type 0
+IsFillRefused f pools why = (IsFill f pools → ⊥) × (why ≡ refusal.Gates)
 
 -- so it is; or not, and the order or the lemmas are refused
 abbrev pub LemmasRefused : Fingers → FewerCertificate → TrailRefusal → Type 0
 LemmasRefused f c why =
-    IsOutRefused f c why ⊎ (MayLeave c.out f × AreLemmasRefused (staying c.out f) c.pools (lemma_line c.out) why)
+    IsFillRefused (staying c.out f) c.pools why
+    ⊎ (IsFill (staying c.out f) c.pools × AreLemmasRefused (staying c.out f) c.pools (lemma_line c.out) why)
 
--- all lines are texts of their states and the lemmas accepted, and the row is refused as that of a log whose lemmas
--- prove so many gaps
+-- all before the row is accepted, and the row is refused as that of a log whose lemmas prove so many gaps
 pub record IsRowRefused (f : Fingers) (c : FewerCertificate) (why : TrailRefusal) : Type 0 where
-  pub may : MayLeave c.out f
-  pub texts : AreTexts (staying c.out f) c.pools
-  pub ends : ℕ
-  pub lemmas : AreProved (staying c.out f) c.pools ends
+  pub proved : ℕ
+  pub lemmas : ProvesOfAll f c proved
   pub few_ways : HasFewWaysOf (staying c.out f) c.pools
-  pub row : WithKinds f (λ (k : Kinds). RowRefused k f (gaps_proved ends) c.pools.best why)
+  pub row : WithKinds f (λ (k : Kinds). RowRefused k f proved c.pools.best why)
 
 abbrev pub Refuses : Fingers → FewerCertificate → TrailRefusal → Type 0
 Refuses f c refusal.Gates = LemmasRefused f c refusal.Gates
 Refuses f c (refusal.Choices gate) = LemmasRefused f c (refusal.Choices gate)
 Refuses f c (refusal.Line line) =
-    MayLeave c.out f × IsLineRefused (staying c.out f) c.pools (lemma_line c.out) line
+    IsFill (staying c.out f) c.pools × IsLineRefused (staying c.out f) c.pools (lemma_line c.out) line
 Refuses f c (refusal.Unproved line) = LemmasRefused f c (refusal.Unproved line)
 Refuses f c refusal.NoMemory = Unit {0}
 Refuses f c why = IsRowRefused f c why
@@ -95,11 +92,12 @@ Refuses f c why = IsRowRefused f c why
 abbrev pub IsForLine : Fingers → OrderCertificate PoolLine → ℕ → TrailRefusal → Type 0
 IsForLine f pools first why = (line : ℕ) × (why ≡ refusal.Line line) × IsLineRefused f pools first line
 
--- the order, a line or the lemmas are refused, for the fingers that they are about
+-- what is filled is refused; or not, and the order, a line or the lemmas are, for the fingers that they are about
 abbrev pub AreEndsRefused : Fingers → OrderCertificate PoolLine → ℕ → TrailRefusal → Type 0
-AreEndsRefused f pools first why = AreLemmasRefused f pools first why ⊎ IsForLine f pools first why
+AreEndsRefused f pools first why =
+    IsFillRefused f pools why
+    ⊎ (IsFill f pools × (AreLemmasRefused f pools first why ⊎ IsForLine f pools first why))
 
 -- the certificate is refused before its row is looked at
 abbrev pub EndsRefused : Fingers → FewerCertificate → TrailRefusal → Type 0
-EndsRefused f c why =
-    IsOutRefused f c why ⊎ (MayLeave c.out f × AreEndsRefused (staying c.out f) c.pools (lemma_line c.out) why)
+EndsRefused f c why = AreEndsRefused (staying c.out f) c.pools (lemma_line c.out) why

@@ -4,10 +4,11 @@ ghost use Rattle.cell_num.specs.Fingers.{AreFingers};
 ghost use Rattle.trail_check.specs.declared.refusal.TrailRefusal.TheVariants as refusal;
 ghost use Rattle.pool_check.specs.declared.refusal.PoolRefusal.TheVariants as cause;
 ghost use Rattle.pool_check.specs.Along.{IsAlong};
-ghost use Rattle.pool_certificate.specs.Accepted.{AreProved, AreTexts, HasFewWaysOf, lemma_listed, lemmas_along};
-ghost use Rattle.pool_certificate.specs.Accepted.{open_of};
+ghost use Rattle.pool_certificate.specs.Accepted.{AreProved, AreTexts, HasFewWaysOf, IsFill, lemma_listed};
+ghost use Rattle.pool_certificate.specs.Accepted.{lemmas_along, open_of};
 ghost use Rattle.pool_certificate.specs.Refusal.{AreEndsRefused, AreLemmasRefused, lemma_line, refusal_of};
 
+use crate::fill::is_fill;
 use crate::texts::check_texts;
 use cell_num::{Fingers, MOST_BYTES, NoMemory};
 use end_lemmas::EndLemma;
@@ -113,8 +114,9 @@ fn along(
     }
 }
 
-/// The ends of trails that the lemmas prove of every row of these fingers, where each line is the text of its state and
-/// each lemma is justified by those before it. Else the first cause to refuse them; the first lemma is at line `first`.
+/// The ends of trails that the lemmas prove of every row of these fingers, where the gates with half columns are filled
+/// or stay open as they may, each line is the text of its state, and each lemma is justified by those before it. Else
+/// the first cause to refuse them; the first lemma is at line `first`.
 #[tactic(auto, using(crate::proofs::Rules::ends_rules))]
 pub(crate) fn ends_of(
     alloc: Global,
@@ -125,12 +127,16 @@ pub(crate) fn ends_of(
     requires fingers { AreFingers fingers.now }
     requires few { length pools.now.lemmas ≤ MOST_BYTES }
     requires first { first ≤ 7 }
+    ensures fill { IfOk result (λ _. IsFill fingers.now pools.now) }
     ensures accepted { IfOk result (AreProved fingers.now pools.now) }
     ensures few_ways { IfOk result (λ _. HasFewWaysOf fingers.now pools.now) }
     ensures texts { IfOk result (λ _. AreTexts fingers.now pools.now) }
     ensures refused { IfErr result (λ why. why ≢ refusal.NoMemory → AreEndsRefused fingers.now pools.now first why) }
 {
     let opened = open_of(alloc, fingers, pools)?;
+    if !is_fill(fingers, pools, &opened) {
+        return Err(TrailRefusal::Gates);
+    }
     let along = along(alloc, fingers, &opened, pools, first)?;
     check_texts(alloc, fingers, pools, &along, first)?;
     let lemmas = lemmas_along(alloc, &along, pools.lemmas.as_slice())?;

@@ -3,7 +3,8 @@
 
 mod certify;
 mod ends;
+mod fill;
 mod texts;
 
-pub use certify::check_certificate;
+pub use certify::{check_certificate, gaps_proved};
 pub use texts::first_other;

@@ -1,12 +1,12 @@
--- Fingers may be left out, and a text can hold which.
-use Rattle.std.specs.Prelude.{ℕ, ◌≡◌, ◌≤◌, ◌<◌, ◌==◌, ◌≢◌, not, Bool, true, false, List, [], ◌∷◌, None, Some}
+-- A text can hold which fingers are left out.
+use Rattle.std.specs.Prelude.{ℕ, ◌≡◌, ◌<◌, ◌==◌, ◌≢◌, Bool, true, false, List, [], ◌∷◌, None, Some}
 use Rattle.std.specs.Prelude.{All, AllPairs, IfSome, if◌then◌else◌, length}
 use Rattle.std.proofs.Common.{refl, sym, ap, subst, arith, get_or}
-use Rattle.std.proofs.lemmas.Bool.{and_from, and_parts, eqb-false, lt-ltb}
+use Rattle.std.proofs.lemmas.Bool.{and_from, eqb-false, lt-ltb}
 use Rattle.std.proofs.lemmas.List.Elements.{All-contains, All-filter}
 use Rattle.std.proofs.lemmas.List.FromFn.{get_or-map-range_with_len, length-map-range_with_len}
 use Rattle.std.proofs.lemmas.List.Kept.{AllPairs-filter}
-use Rattle.cell_num.proofs.Lists.{all_from_contains, contains_here}
+use Rattle.cell_num.proofs.Lists.{contains_here}
 use Rattle.cell_num.proofs.Pairs.{pairs_head, pairs_tail}
 use Rattle.cell_num.specs.declared.finger.Fingers.{Fingers}
 use Rattle.cell_num.specs.declared.finger.Row.{Row}
@@ -15,16 +15,11 @@ use Rattle.row_state.specs.declared.kind.Kinds.{Kinds}
 use Rattle.row_state.specs.Start.{AreKinds}
 use Rattle.trail_log.specs.Fits.{NetFits}
 use Rattle.trail_log.specs.Order.{increases, net_rank}
-use Rattle.trail_state.proofs.Members.{passes_from}
-use Rattle.open_gates.specs.Open.{has_more}
 use Rattle.fewer_fingers.specs.declared.fewer.LeftOut.{LeftOut}
-use Rattle.fewer_fingers.specs.Fewer.{MayLeave, MayLeaveOut}
-use Rattle.fewer_fingers.proofs.Decided.{not_decides}
 use Rattle.fewer_log.specs.Fits.{OutFits}
-use Rattle.pool_check.specs.Accepted.{has_many_ways}
 use Rattle.pool_trails.specs.declared.opening.Opening.{Opening}
 use Rattle.pool_trails.specs.declared.opening.Opening.TheVariants.{Crowded, Longer, Without}
-use Rattle.pool_trails.specs.Opening.{all_nets, gates_left_out, is_left_out, open_with_more, other_row, out_of}
+use Rattle.pool_trails.specs.Opening.{all_nets, gates_left_out, is_left_out, out_of}
 
 abbrev net_of : ℕ → NetNo
 net_of n = record { 0 = n }
@@ -66,14 +61,6 @@ module _ (row : Row) (f : Fingers) where
   abbrev out : LeftOut
   out = record { row = row; gates = gates }
 
-  no_more : (gate : NetNo) → is_left_out row f gate ≡ true → has_more row f gate ≡ false
-  no_more gate h = (not_decides (has_more row f gate)).0
-      (and_parts (not (has_more row f gate)) (has_many_ways f (open_with_more (other_row row) f) gate) h).0
-
-  may_leave_out : MayLeaveOut out f
-  may_leave_out = all_from_contains (λ (g : NetNo). has_more row f g ≡ false) gates
-      (λ gate there. no_more gate (passes_from (is_left_out row f) (all_nets f) gate there).passes)
-
   out_fits : (length gates == 0) ≡ false → OutFits f.nets out
   out_fits off = record {
     some = let more : length gates ≢ 0 = eqb-false (length gates) 0 off in omega (arith, more);
@@ -82,18 +69,9 @@ module _ (row : Row) (f : Fingers) where
         (AllPairs-filter (λ (a b : NetNo). a.0 < b.0) (is_left_out row f) (all_nets f) (nets_ascend f));
   }
 
-  may_leave_if : (b : Bool) → MayLeave (if b then None else Some out) f
-  may_leave_if true = tt
-  may_leave_if false = may_leave_out
-
   fits_if : (b : Bool) → (length gates == 0) ≡ b → IfSome (if b then None else Some out) (OutFits f.nets)
   fits_if true e = tt
   fits_if false e = out_fits e
-
-pub may_leave : (opening : Opening) (f : Fingers) → MayLeave (out_of opening f) f
-may_leave Longer f = tt
-may_leave Crowded f = tt
-may_leave (Without row) f = may_leave_if row f (length (gates_left_out row f) == 0)
 
 fits_nets : (opening : Opening) (f : Fingers) → IfSome (out_of opening f) (OutFits f.nets)
 fits_nets Longer f = tt

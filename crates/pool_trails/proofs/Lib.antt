@@ -1,8 +1,13 @@
+pub mod FewerNets
+pub mod StayOpen
+pub mod FewWays
+pub mod Stopped
 pub mod Lists
 pub mod Nets
 pub mod Opened
 pub mod LeftOut
-pub mod Counted
+pub mod Filled
 pub mod Certified
+pub mod Vain
 pub mod Searched
 pub mod Rules

@@ -38,6 +38,7 @@ use Rattle.pool_trails.specs.Ended.{HasManyOpen, IsSearched, IsUnlisted}
 use Rattle.pool_trails.specs.Found.{IsPrunedProof, IsFoundAlong, certificate_of, line_at}
 use Rattle.pool_trails.specs.Inner.{ArePoolGates, AreUnlistedAlong, IsPoolProof, ListAlong, Stops, lined, stop_of}
 use Rattle.pool_trails.specs.Opening.{fill_by, is_uncrowded, opened_of}
+use Rattle.pool_trails.proofs.Filled.{is_fill}
 use Rattle.pool_trails.proofs.Lists.{texts_of}
 
 abbrev with_lines : List NetNo → List NetNo → List PoolLine → OrderCertificate PoolLine
@@ -115,9 +116,13 @@ module _ (f : Fingers) (gates : PoolGates) (g : ArePoolGates f gates) where
           pools.lemmas) a.levels
           (subst (λ (ps : Pools). All (IsTextOfState ps along.levels) pools.lemmas) a.pools l.texts)))
 
-      is_proof : PoolsFit k pools → IsPoolProof f gates k budget proof pools
-      is_proof fits = record {
-        order = subst (IsOrder f) (sym l.order) g.is;
+      order_is : IsOrder f pools.order
+      order_is = subst (IsOrder f) (sym l.order) g.is
+
+      is_proof : AreFingers f → PoolsFit k pools → IsPoolProof f gates k budget proof pools
+      is_proof ok fits = record {
+        order = order_is;
+        fill = is_fill gates.opening f ok pools order_is searched.fill;
         few_ways = few_ways;
         texts = texts_same;
         searched = searched;
@@ -168,11 +173,11 @@ module _ (f : Fingers) (gates : PoolGates) (g : ArePoolGates f gates) (k : Kinds
   unlisted_by none =
       unlisted f gates g k along budget proof a found (subst (AreUnlistedAlong k along gates) listed none)
 
-  pub proof_by : (pools : OrderCertificate PoolLine) → PoolsFit k pools → ListAlong along gates lemmas pools
-      → IsPoolProof f gates k budget proof pools
-  proof_by pools fits l =
+  pub proof_by : AreFingers f → (pools : OrderCertificate PoolLine) → PoolsFit k pools
+      → ListAlong along gates lemmas pools → IsPoolProof f gates k budget proof pools
+  proof_by ok pools fits l =
       is_proof f gates g k along budget proof a found pools
-      (subst (λ (ls : List (EndLemma PoolState)). ListAlong along gates ls pools) listed l) fits
+      (subst (λ (ls : List (EndLemma PoolState)). ListAlong along gates ls pools) listed l) ok fits
 
 -- What a search finds, once pruned along the steps and levels of an order, is found along it.
 module _ (f : Fingers) (gates : PoolGates) (g : ArePoolGates f gates) (along : PoolOrder) (budget : ℕ)

@@ -10,7 +10,6 @@ use Rattle.log_check.specs.Accepted.{Lists, WithKinds}
 use Rattle.row_search.specs.First.{IsFirstLeast}
 use Rattle.trail_state.specs.Levels.{IsOrder}
 use Rattle.trail_check.specs.Accepted.{IsLow}
-use Rattle.trail_check.specs.Justified.{gaps_proved}
 use Rattle.trail_search.specs.declared.attempts.Attempts.{Attempts}
 use Rattle.trail_search.specs.declared.attempts.Attempts.TheVariants.{InSecondHalf, Never}
 use Rattle.trail_search.specs.Searched.{WentForRow}
@@ -27,12 +26,13 @@ use Rattle.fewer_log.specs.declared.certificate.FewerCertificate.{FewerCertifica
 use Rattle.fewer_log.specs.Fits.{FewerFits}
 use Rattle.pool_check.specs.Accepted.{first_with_many}
 use Rattle.pool_check.specs.Stepping.{steps_of}
-use Rattle.pool_certificate.specs.Accepted.{AreProved, AreTexts, HasFewWaysOf, IsAccepted, lemmas_of}
+use Rattle.pool_certificate.specs.Accepted.{AreProved, AreTexts, HasFewWaysOf, IsAccepted, IsFill, lemmas_of}
 use Rattle.pool_trails.specs.declared.found.PoolStop.{PoolStop}
 use Rattle.pool_trails.specs.declared.found.PoolStop.TheVariants as stopped
 use Rattle.pool_trails.specs.declared.opening.Opening.{Opening}
+use Rattle.pool_trails.specs.declared.opening.Opening.TheVariants.{Without}
 use Rattle.pool_trails.specs.Found.{AreUnlisted, IsFoundAlong}
-use Rattle.pool_trails.specs.Opening.{staying_by, fill_by, is_uncrowded, opened_of, out_of}
+use Rattle.pool_trails.specs.Opening.{fill_by, gaps_by, is_uncrowded, opened_of, out_of, staying_by}
 
 -- The certificate is accepted with the gaps of the row, and lists it. A checker can list the ways of its gates, and a
 -- text can hold it.
@@ -49,7 +49,8 @@ pub record IsSearched (opening : Opening) (f : Fingers) (budget : ℕ) (pools : 
   pub listed : lemmas_of f pools ≡ proof.lemmas
   pub found : IsFoundAlong opening f pools.order budget proof
 
--- The row is the first least one, and is certified. It has as many gaps as the lemmas prove that were found.
+-- The row is the first least one, and is certified. It has as many gaps as the lemmas that were found prove of all
+-- fingers.
 pub record IsPoolFound (opening : Opening) (f : Fingers) (budget : ℕ) (row : List Column) (c : FewerCertificate)
     : Type 0 where
   pub first : IsFirstLeast f row
@@ -57,22 +58,23 @@ pub record IsPoolFound (opening : Opening) (f : Fingers) (budget : ℕ) (row : L
   pub out : c.out ≡ out_of opening f
   pub proof : EndProof PoolState
   pub searched : IsSearched opening (staying_by opening f) budget c.pools proof
-  pub gaps : gaps_of row ≡ gaps_proved proof.ends
+  pub gaps : gaps_of row ≡ gaps_by opening f proof.ends
 
 -- Attempts to refute states by trails are made only where no gate has too many ways, with half of the units.
 abbrev pub attempts_where : Bool → Attempts
 attempts_where uncrowded = if uncrowded then InSecondHalf else Never
 
--- The certificate lists no row. Its lemmas are accepted, and prove that no arrangement has fewer gaps. A search within
--- the budget found them.
+-- The certificate lists no row. Its lemmas are accepted. They prove that no arrangement has fewer gaps: one less for
+-- each column lost. A search within the budget found them.
 pub record IsPoolProved (opening : Opening) (f : Fingers) (budget : ℕ) (c : FewerCertificate)
     (proof : EndProof PoolState) (proved : ℕ) : Type 0 where
   pub out : c.out ≡ out_of opening f
   pub lists_none : IsNone c.pools.best
+  pub fill : IsFill (staying_by opening f) c.pools
   pub texts : AreTexts (staying_by opening f) c.pools
   pub accepted : AreProved (staying_by opening f) c.pools proof.ends
   pub few_ways : HasFewWaysOf (staying_by opening f) c.pools
-  pub best : proved ≡ gaps_proved proof.ends
+  pub best : proved ≡ gaps_by opening f proof.ends
   pub low : IsLow f proved
   pub fits : WithKinds f (λ k. FewerFits k c)
   pub searched : IsSearched opening (staying_by opening f) budget c.pools proof
@@ -113,9 +115,10 @@ pub record IsUnlisted (opening : Opening) (f : Fingers) (k : Kinds) : Type 0 whe
   pub found : IsFoundAlong opening f order budget proof
   pub none : AreUnlisted opening f k order proof.lemmas
 
+-- No lemmas can be listed. Where fingers are left out, this is never for a gate with too many ways.
 abbrev pub IsPoolCrowded : Opening → Fingers → Type 0
-IsPoolCrowded opening f =
-    HasManyOpen opening (staying_by opening f) ⊎ WithKinds f (IsUnlisted opening (staying_by opening f))
+IsPoolCrowded (Without row) f = WithKinds f (IsUnlisted (Without row) (staying_by (Without row) f))
+IsPoolCrowded opening f = HasManyOpen opening f ⊎ WithKinds f (IsUnlisted opening f)
 
 abbrev pub IsPoolStopped : Opening → Fingers → ℕ → PoolStop → Type 0
 IsPoolStopped opening f budget (stopped.Unfinished certificate proved) =

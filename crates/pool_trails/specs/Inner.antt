@@ -15,7 +15,7 @@ use Rattle.pool_check.specs.declared.along.PoolOrder.{PoolOrder}
 use Rattle.pool_check.specs.declared.refusal.PoolRefusal.{PoolRefusal}
 use Rattle.pool_check.specs.declared.refusal.PoolRefusal.TheVariants as cause
 use Rattle.pool_lines.specs.Texts.{IsTextOfState}
-use Rattle.pool_certificate.specs.Accepted.{AreTexts, HasFewWaysOf, lemmas_along}
+use Rattle.pool_certificate.specs.Accepted.{AreTexts, HasFewWaysOf, IsFill, lemmas_along}
 use Rattle.pool_trails.specs.declared.found.PoolStop.{PoolStop}
 use Rattle.pool_trails.specs.declared.found.PoolStop.TheVariants as stopped
 use Rattle.pool_trails.specs.declared.gates.PoolGates.{PoolGates}
@@ -73,6 +73,7 @@ AreUnlistedAlong k along gates lemmas =
 pub record IsPoolProof (f : Fingers) (gates : PoolGates) (k : Kinds) (budget : ℕ) (proof : EndProof PoolState)
     (pools : OrderCertificate PoolLine) : Type 0 where
   pub order : IsOrder f pools.order
+  pub fill : IsFill f pools
   pub few_ways : HasFewWaysOf f pools
   pub texts : AreTexts f pools
   pub searched : IsSearched gates.opening f budget pools proof

@@ -1,5 +1,5 @@
 -- Which gates with half columns a search leaves open, which it fills, and which fingers it leaves out.
-use Rattle.std.specs.Prelude.{◌==◌, ◌&&◌, Bool, not, if◌then◌else◌, ltb, List, Option, Some, None, length, map}
+use Rattle.std.specs.Prelude.{ℕ, ◌-◌, ◌==◌, Bool, not, if◌then◌else◌, ltb, List, Option, Some, None, length, map}
 use Rattle.std.specs.List.{filter, range_with_len}
 use Rattle.cell_num.specs.declared.net.NetNo.{NetNo}
 use Rattle.cell_num.specs.declared.finger.Fingers.{Fingers}
@@ -7,8 +7,9 @@ use Rattle.cell_num.specs.declared.finger.Row.{Row}
 use Rattle.cell_num.specs.declared.finger.Row.TheVariants.{P, N}
 use Rattle.open_gates.specs.declared.gates.OpenGates.{OpenGates}
 use Rattle.open_gates.specs.Open.{has_more, open_in, row_of}
+use Rattle.trail_check.specs.Justified.{gaps_proved}
 use Rattle.fewer_fingers.specs.declared.fewer.LeftOut.{LeftOut}
-use Rattle.fewer_fingers.specs.Fewer.{staying}
+use Rattle.fewer_fingers.specs.Fewer.{columns_lost, staying}
 use Rattle.pool_check.specs.Accepted.{has_many_ways}
 use Rattle.trail_search.specs.Filling.{is_one_of, opened_gates, uneven_gates}
 use Rattle.pool_trails.specs.declared.opening.Opening.{Opening}
@@ -27,10 +28,9 @@ all_nets f = map (λ n. record { 0 = n }) (range_with_len 0 f.nets)
 abbrev pub open_with_more : Row → Fingers → OpenGates
 open_with_more row f = record { row = row; gates = filter (has_more row f) (all_nets f) }
 
--- The gate has no more fingers in the row than in the other one. Its fingers pair in too many ways, though half columns
--- of the other row stay open.
+-- though half columns of the other row stay open, the fingers of the gate pair in too many ways
 abbrev pub is_left_out : Row → Fingers → NetNo → Bool
-is_left_out row f gate = not (has_more row f gate) && has_many_ways f (open_with_more (other_row row) f) gate
+is_left_out row f gate = has_many_ways f (open_with_more (other_row row) f) gate
 
 abbrev pub gates_left_out : Row → Fingers → List NetNo
 gates_left_out row f = filter (is_left_out row f) (all_nets f)
@@ -48,6 +48,18 @@ out_of _ f = None
 -- the fingers that stay: lemmas are about these
 abbrev pub staying_by : Opening → Fingers → Fingers
 staying_by opening f = staying (out_of opening f) f
+
+-- how many columns less these need
+abbrev pub lost_by : Opening → Fingers → ℕ
+lost_by opening f = columns_lost f (staying_by opening f)
+
+-- what so many ends of these come to, less the columns lost: each arrangement of all has as many gaps
+abbrev pub gaps_by : Opening → Fingers → ℕ → ℕ
+gaps_by opening f ends = gaps_proved ends - lost_by opening f
+
+-- the row whose fingers are left out first: where fewer columns are lost, N where as many are
+abbrev pub first_out : Fingers → Row
+first_out f = if ltb (lost_by (Without P) f) (lost_by (Without N) f) then P else N
 
 -- ---- gates that are left open, of the fingers that stay
 

@@ -25,7 +25,7 @@ pub enum PoolStop {
         certificate: FewerCertificate,
         proved: u32,
     },
-    /// A gate of the fingers that stay has too many ways, though half columns stay open. Or no text lists the lemmas.
+    /// No text lists the lemmas. Or a gate has too many ways, though half columns stay open: never with `Without`.
     Crowded,
     NoMemory,
 }

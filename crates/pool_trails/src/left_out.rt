@@ -1,20 +1,21 @@
 // Which fingers are left out.
 ghost use Rattle.std.specs.Prelude.{◌≡◌, IfOk};
 ghost use Rattle.cell_num.specs.Fingers.{AreFingers};
-ghost use Rattle.pool_trails.specs.Opening.{all_nets, gates_left_out, is_left_out, left_out, open_with_more};
-ghost use Rattle.pool_trails.specs.Opening.{other_row, out_of};
+ghost use Rattle.pool_trails.specs.Opening.{all_nets, first_out, gates_left_out, is_left_out, left_out, lost_by};
+ghost use Rattle.pool_trails.specs.Opening.{open_with_more, other_row, out_of};
 
 use crate::Opening;
 use cell_num::{Fingers, List, NetNo, NoMemory, Row};
-use fewer_fingers::LeftOut;
-use open_gates::{OpenGates, has_more};
+use fewer_fingers::{LeftOut, columns_lost, staying};
+use open_gates::OpenGates;
 use pool_check::MOST_CHOICES;
 use std::alloc::{AllocError, Global};
 use trail_log::NetList;
 use trail_pools::has_long_front;
 use trail_search::having_more;
 
-pub(crate) fn other_row(row: Row) -> Row
+/// The row that is not this one.
+pub fn other_row(row: Row) -> Row
     ensures { result ≡ other_row row }
 {
     match row {
@@ -57,9 +58,6 @@ fn is_left_out(
     requires opened { opened.now ≡ open_with_more (other_row row) fingers.now }
     ensures { IfOk result (λ is. is ≡ is_left_out row fingers.now gate.now) }
 {
-    if has_more(row, fingers, gate) {
-        return Ok(false);
-    }
     has_long_front(alloc, fingers, opened, *gate, MOST_CHOICES)
 }
 
@@ -102,5 +100,30 @@ pub(crate) fn out_of(
     match opening {
         Opening::Longer | Opening::Crowded => Ok(None),
         Opening::Without(row) => left_out(alloc, row, fingers),
+    }
+}
+
+// How many columns less the fingers need that stay.
+fn lost_by(alloc: Global, opening: Opening, fingers: &Fingers) -> Result<u32, NoMemory>
+    requires { AreFingers fingers.now }
+    ensures { IfOk result (λ lost. lost ≡ lost_by opening fingers.now) }
+{
+    let out = out_of(alloc, opening, fingers)?;
+    let others = staying(alloc, &out, fingers)?;
+    Ok(columns_lost(fingers, &others))
+}
+
+/// The row whose fingers `Without` leaves out with fewer columns lost, N where as many are. Each column lost takes a
+/// gap from what lemmas prove.
+pub fn first_out(alloc: Global, fingers: &Fingers) -> Result<Row, NoMemory>
+    requires { AreFingers fingers.now }
+    ensures { IfOk result (λ row. row ≡ first_out fingers.now) }
+{
+    let lost_p = lost_by(alloc, Opening::Without(Row::P), fingers)?;
+    let lost_n = lost_by(alloc, Opening::Without(Row::N), fingers)?;
+    if lost_p < lost_n {
+        Ok(Row::P)
+    } else {
+        Ok(Row::N)
     }
 }

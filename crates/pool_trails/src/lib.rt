@@ -10,5 +10,6 @@ mod opening;
 mod search;
 
 pub use found::{PoolFound, PoolStop};
+pub use left_out::{first_out, other_row};
 pub use opening::Opening;
 pub use search::search_pool_row;

@@ -18,8 +18,7 @@ pub enum Opening {
     Longer,
     /// Only those with too many ways to be filled: those that `search_trails` leaves open.
     Crowded,
-    /// Each with fewer fingers in this row. A gate that has no more in it than in the other one, and too many ways even
-    /// so, has its fingers of this row left out.
+    /// Each with fewer fingers in this row. A gate that has too many ways even so has its fingers of this row left out.
     Without(Row),
 }
 

@@ -1,11 +1,11 @@
-ghost use Rattle.std.specs.Prelude.{◌≡◌, ◌↔◌, IfErr, IfOk, IsTrue};
+ghost use Rattle.std.specs.Prelude.{◌≡◌, ◌-◌, ◌↔◌, IfErr, IfOk, IsTrue};
 ghost use Rattle.cell_num.specs.Fingers.{AreFingers};
 ghost use Rattle.row_state.specs.Start.{AreKinds, AreSomeKinds};
 ghost use Rattle.trail_check.specs.Justified.{gaps_proved};
 ghost use Rattle.end_search.specs.declared.proof.SearchEnd.TheVariants as ended;
 ghost use Rattle.pool_trails.specs.Ended.{IsPoolFound, IsPoolStopped, attempts_where};
 ghost use Rattle.pool_trails.specs.Inner.{ArePoolGates, CannotProve, IsPoolProof, Stops};
-ghost use Rattle.pool_trails.specs.Opening.{staying_by, out_of};
+ghost use Rattle.pool_trails.specs.Opening.{lost_by, out_of, staying_by};
 
 use crate::gates::{PoolGates, along, pool_gates};
 use crate::left_out::out_of;
@@ -14,8 +14,9 @@ use crate::listed::listed;
 use crate::{Opening, PoolFound, PoolStop};
 use cell_num::{Fingers, Halt};
 use end_search::{EndProof, SearchEnd};
-use fewer_fingers::staying;
+use fewer_fingers::{columns_lost, staying};
 use fewer_log::FewerCertificate;
+use pool_certificate::gaps_proved;
 use pool_log::PoolCertificate;
 use row_state::{Kinds, kinds};
 use std::alloc::Global;
@@ -29,10 +30,11 @@ struct PoolProof {
     pools: PoolCertificate,
 }
 
-fn gaps_proved(ends: u32) -> u32
-    ensures { result ≡ gaps_proved ends }
+// What the ends prove of all fingers: a gap less for each column lost.
+fn gaps_left(ends: u32, lost: u32) -> u32
+    ensures { result ≡ gaps_proved ends - lost }
 {
-    ends.saturating_sub(1) / 2
+    gaps_proved(ends).saturating_sub(lost)
 }
 
 // An attempt would list the ways of each gate, also of one that has too many.
@@ -55,12 +57,13 @@ fn is_spent(end: SearchEnd) -> bool
     }
 }
 
-// The first row of as many gaps as the lemmas prove. The certificate lists these.
+// The first row of as many gaps as the lemmas prove of all fingers. The certificate lists these.
 fn row_of(
     alloc: Global,
     fingers: &Fingers,
     gates: &PoolGates,
     kinds: &Kinds,
+    lost: u32,
     proof: &EndProof<PoolState>,
     certificate: FewerCertificate,
     budget: u64,
@@ -68,13 +71,14 @@ fn row_of(
     requires fingers { AreFingers fingers.now }
     requires kinds { AreKinds fingers.now kinds.now }
     requires sound { AreSomeKinds kinds.now }
+    requires lost { lost ≡ lost_by gates.now.opening fingers.now }
     requires out { certificate.out ≡ out_of gates.now.opening fingers.now }
     requires proof { IsPoolProof (staying_by gates.now.opening fingers.now) gates.now kinds.now budget proof.now
         certificate.pools }
     ensures found { IfOk result (λ r. IsPoolFound gates.now.opening fingers.now budget r.row r.certificate) }
     ensures stopped { IfErr result (IsPoolStopped gates.now.opening fingers.now budget) }
 {
-    let proved = gaps_proved(proof.ends);
+    let proved = gaps_left(proof.ends, lost);
     if is_spent(proof.end) {
         return Err(PoolStop::Unfinished {
             certificate,
@@ -125,11 +129,11 @@ fn proof_along(
 /// The first least arrangement of the fingers, and a certificate with the balances of pools that proves that none has
 /// fewer gaps; or what is proved when the budget is spent. Half columns stay open, and fingers are left out, as
 /// `opening` says. Lemmas on the fingers that stay are looked for first, by `search_pools`. Those that nothing rests on
-/// are not listed. Then a row of all fingers with as many gaps as they prove is looked for, with the units that are
-/// left. Where no gate of the fingers that stay has too many ways to be filled, half of these go for a search that
-/// tries no trails at the states of a row; where it spends them, the others go for a search that does, and that goes on
-/// with the bounds that the first one found. Else all go for the first. It ends without a row where a gate has too many
-/// ways even so, or where each arrangement has more gaps.
+/// are not listed. Then a row of all fingers is looked for that has as many gaps as they prove of all: one less for
+/// each column lost. It takes the units that are left. Where no gate of the fingers that stay has too many ways to be
+/// filled, half of these go for a search that tries no trails at the states of a row; where it spends them, the others
+/// go for a search that does, and that goes on with the bounds that the first one found. Else all go for the first. It
+/// ends without a row where a gate has too many ways even so, or where each arrangement has more gaps.
 pub fn search_pool_row(
     alloc: Global,
     fingers: &Fingers,
@@ -142,9 +146,19 @@ pub fn search_pool_row(
 {
     let out = out_of(alloc, opening, fingers)?;
     let others = staying(alloc, &out, fingers)?;
+    let lost = columns_lost(fingers, &others);
     let kinds = kinds(alloc, fingers)?;
     let gates = pool_gates(alloc, &others, opening)?;
     let PoolProof { proof, pools } = proof_along(alloc, &others, &gates, &kinds, budget)?;
     let certificate = FewerCertificate { out, pools };
-    row_of(alloc, fingers, &gates, &kinds, &proof, certificate, budget)
+    row_of(
+        alloc,
+        fingers,
+        &gates,
+        &kinds,
+        lost,
+        &proof,
+        certificate,
+        budget,
+    )
 }

@@ -1,20 +1,21 @@
-// Cells with gates that pair in too many ways, whichever half columns stay open.
+// Cells with gates that pair in too many ways, whichever half columns stay open: fingers are left out.
 use crate::calls::{End, Left, Said, ends};
 use crate::setup::inputs;
 use cell_run::Status;
 use std::alloc::Global;
 use std::test::Fail;
 
-// Where half columns of either row leave one gate to be filled, the report names a gate, and no file is made.
-const CROWDED: End = End {
-    status: Status::Unfinished,
-    said: Said::Whole(&["status 6 unfinished\ngate h\n"]),
-    files: &[
-        ("out.ctrail", Left::Nothing),
-        ("out.clog", Left::Nothing),
-        ("out.gds", Left::Nothing),
-        ("out.lef", Left::Nothing),
-    ],
+// With the fingers of one row left out one column is lost: no gap is proved, and the row has none.
+const ROW: End = End {
+    status: Status::Done,
+    said: Said::First("status 0 ok\ncell many\ncolumns 16\ngaps 0\nwidth 16\n"),
+    files: &[],
+};
+
+const LEMMAS: End = End {
+    status: Status::Done,
+    said: Said::Last("lemmas 2\nfilled 0\n"),
+    files: &[],
 };
 
 const IN_VAIN_TRAILS: &[u8] = b"cellgen-trails 3
@@ -65,7 +66,7 @@ fn put_crowded(alloc: Global, text: &mut String) -> Result<(), Fail> {
     Ok(text.push_str(".ENDS\n")?)
 }
 
-// A gate of eight different P fingers over seven N fingers, and one of seven over eight.
+// A gate of eight different P fingers over seven N fingers, and one of seven over eight. Each row of a gate is a chain.
 fn put_two_crowded(alloc: Global, text: &mut String) -> Result<(), Fail> {
     text.push_str(".SUBCKT many g h vdd gnd\n")?;
     for at in 0..8u32 {
@@ -116,9 +117,10 @@ fn makes_the_certificate_of_what_is_proved_in_vain(rt: HostRuntime) -> Result<()
 }
 
 #[test]
-fn makes_nothing_of_two_crowded_gates(rt: HostRuntime) -> Result<(), Fail> {
-    let words = "make - c.sp many out --trails";
-    assert!(rt; are_crowded(rt.alloc(), words, &CROWDED)?);
+fn plans_a_row_of_two_crowded_gates(rt: HostRuntime) -> Result<(), Fail> {
+    let words = "plan - c.sp many --trails";
+    assert!(rt; are_crowded(rt.alloc(), words, &ROW)?);
+    assert!(rt; are_crowded(rt.alloc(), words, &LEMMAS)?);
     Ok(())
 }
 

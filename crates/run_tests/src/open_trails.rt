@@ -16,7 +16,10 @@ MNC x b z gnd n W=1.5u L=0.6u
 .ENDS
 ";
 
-const HEAD: &str = "cellgen-trails 2\ncell half\nfill -\norder 0,1\n";
+const HEAD: &str = "cellgen-trails 2\ncell half\nfill 1\norder 0,1\n";
+
+// Here gates of both rows would stay open, where no fingers are left out.
+const UNLIKE: &str = "cellgen-trails 2\ncell half\nfill -\norder 0,1\n";
 
 const FIRST: &str = "lemma 3 1 4.2,5.4 4-1,5-1 4.*+5.*\n";
 
@@ -25,7 +28,7 @@ const OTHERS: &str = "lemma 3 1 4.4,5.2 4-1,5-1 4.*+5.*\nlemma 3 0 - - -\n";
 const ROW: &str =
     "gaps 1\ncolumn 0 0 0 0 0\ncolumn 0 0 1 - 0\ncolumn 1 - 0 2 0\ncolumn 1 1 0 1 0\nend\n";
 
-const ACCEPTED: &str = "status 0 ok\ncell half\ncolumns 4\ngaps 1\nwidth 5\nlemmas 3\nfilled 0\n";
+const ACCEPTED: &str = "status 0 ok\ncell half\ncolumns 4\ngaps 1\nwidth 5\nlemmas 3\nfilled 1\n";
 
 // Whether a certificate of these parts is judged so, for this cell.
 fn is_judged_of(
@@ -48,17 +51,27 @@ fn is_judged(alloc: Global, parts: &[&str], status: Status, said: &[&str]) -> Re
     is_judged_of(alloc, words, UNEVEN, parts, status, said)
 }
 
-// The parts of a damaged certificate, and why it is refused. The text of version 1 has no balances.
-const REFUSED: [([&str; 4], &str); 8] = [
+// The parts of a damaged certificate, and why it is refused. The text of version 1 has no balances. Net 4 is no gate.
+const REFUSED: [([&str; 4], &str); 10] = [
     (["cellgen-trails 4\n", FIRST, OTHERS, ROW], "Version"),
     (
         [
-            "cellgen-trails 1\ncell half\nfill -\norder 0,1\n",
+            "cellgen-trails 1\ncell half\nfill 1\norder 0,1\n",
             FIRST,
             OTHERS,
             ROW,
         ],
         "Line line 5",
+    ),
+    ([UNLIKE, FIRST, OTHERS, ROW], "Gates"),
+    (
+        [
+            "cellgen-trails 2\ncell half\nfill 1,4\norder 0,1\n",
+            FIRST,
+            OTHERS,
+            ROW,
+        ],
+        "Gates",
     ),
     (
         [HEAD, "lemma 3 1 4.2,5.4 4-0,5-1 4.*+5.*\n", OTHERS, ROW],
@@ -135,6 +148,11 @@ column 7 4 1 4 1
 end
 ";
 
+// Without its P fingers gate a needs one column in place of two. So the gap that the lemmas prove is lost.
+const LOST: &str = "cellgen-trails 3\nwithout P 0\n";
+
+const OF_OTHERS: &str = "lemma 4 1 - 2-1,4-1 *.2+*.4\nlemma 4 0 - - -\n";
+
 const MANY_ACCEPTED: &str =
     "status 0 ok\ncell many\ncolumns 13\ngaps 2\nwidth 15\nlemmas 2\nfilled 0\n";
 
@@ -147,9 +165,9 @@ fn checks_certificates_without_fingers(rt: HostRuntime) -> Result<(), Fail> {
     let no_choice = [OTHER_FINGERS, ALL_FINGERS];
     let many = ["status 7 rejected\ntrails Choices gate b\n"];
     assert!(rt; is_judged_of(alloc, words, MANY, &no_choice, Status::Rejected, &many)?);
-    let few = ["cellgen-trails 3\nwithout P 0\n", HEAD, FIRST, OTHERS, ROW];
-    let gates = ["status 7 rejected\ntrails Gates\n"];
-    assert!(rt; is_judged(alloc, &few, Status::Rejected, &gates)?);
+    let lost = [LOST, UNLIKE, OF_OTHERS, ROW];
+    let none = ["status 7 rejected\ntrails NotLeast best 0 said 1\n"];
+    assert!(rt; is_judged(alloc, &lost, Status::Rejected, &none)?);
     Ok(())
 }
 

@@ -6,9 +6,8 @@ use thiserror::Error;
 /// Why a certificate is refused, in the order of looking.
 #[derive(Debug, PartialEq, Eq, Drop, Error)]
 pub enum TrailRefusal {
-    /// The order is not each gate of a finger once. Or, in version 1, the gates with half columns that are not filled
-    /// do not all have more fingers in one row. Or, in version 3, a gate of which fingers are left out has fewer in
-    /// the other row.
+    /// The order is not each gate of a finger once. Or the gates with half columns that are not filled do not all have
+    /// more fingers in one row. Or, in versions 2 and 3, a gate without half columns is filled.
     #[error("Gates")]
     Gates,
     /// The first gate of the order that is not left open, and whose fingers pair in more than

@@ -9,7 +9,8 @@ use Rattle.log_check.specs.Accepted.{WithKinds}
 use Rattle.trail_log.specs.declared.trails.TrailCertificate.{TrailCertificate}
 use Rattle.fewer_log.specs.declared.certificate.FewerCertificate.{FewerCertificate}
 use Rattle.trail_search.specs.Ended.{IsCertified, IsTrailFound}
-use Rattle.trail_search.specs.Filling.{is_uneven, uneven_gates}
+use Rattle.open_gates.specs.Open.{is_uneven}
+use Rattle.trail_search.specs.Filling.{uneven_gates}
 use Rattle.pool_trails.specs.declared.opening.Opening.{Opening}
 use Rattle.pool_trails.specs.Ended.{IsPoolCertified, IsPoolFound}
 use Rattle.trail_either.specs.declared.evidence.TrailEvidence.TheVariants.{Filled, Pools}

@@ -1,8 +1,9 @@
 -- What a certificate by trails lists, its text, and whether a text can hold it.
-use Rattle.std.specs.Prelude.{ℕ, List, Option, Some, length}
+use Rattle.std.specs.Prelude.{ℕ, List, Option, length}
 use Rattle.row_state.specs.declared.kind.Kinds.{Kinds}
 use Rattle.bound_log.specs.declared.log.Best.{Best}
 use Rattle.trail_log.specs.Fits.{TrailsFit}
+use Rattle.trail_log.specs.Listing.{trails_listing}
 use Rattle.trail_log.specs.Text.{trails_text}
 use Rattle.fewer_log.specs.Fits.{FewerFits}
 use Rattle.fewer_log.specs.Listing.{listing}
@@ -26,8 +27,7 @@ best_in (Pools c) = c.pools.best
 
 -- the same with this row in place of its own
 abbrev pub either_listing : TrailEvidence → Best → TrailEvidence
-either_listing (Filled trails) best =
-    Filled (record { fill = trails.fill; order = trails.order; lemmas = trails.lemmas; best = Some best })
+either_listing (Filled trails) best = Filled (trails_listing trails best)
 either_listing (Pools c) best = Pools (listing c best)
 
 -- a text can hold it

@@ -15,6 +15,7 @@ use Rattle.fewer_log.specs.declared.certificate.FewerCertificate.{FewerCertifica
 use Rattle.pool_trails.specs.declared.opening.Opening.{Opening}
 use Rattle.pool_trails.specs.declared.opening.Opening.TheVariants.{Crowded, Longer, Without}
 use Rattle.pool_trails.specs.Ended.{IsPoolCrowded, IsPoolFound, IsPoolInVain, IsPoolSpent}
+use Rattle.pool_trails.specs.Opening.{first_out, other_row}
 use Rattle.trail_either.specs.declared.evidence.TrailEvidence.{TrailEvidence}
 use Rattle.trail_either.specs.declared.evidence.TrailEvidence.TheVariants.{Filled, Pools}
 use Rattle.trail_either.specs.declared.found.EitherFound.{EitherFound}
@@ -53,13 +54,13 @@ pub record EndsAtGate (f : Fingers) (budget most : ℕ) : Type 0 where
   pub filled : IsCrowded f gate
 
 -- When a search with pools comes, by what it leaves open: where those before it end without a row, and those with pools
--- prove at most so many gaps.
+-- prove at most so many gaps. Of the two that leave fingers out the one comes first that loses fewer columns.
 abbrev pub IsNext : Fingers → ℕ → ℕ → Opening → Type 0
 IsNext f budget most Longer = HasHalfColumns f
 IsNext f budget most Crowded = EndsAtGate f budget most
-IsNext f budget most (Without N) = EndsAtGate f budget most × EndsBelow f budget most Crowded
-IsNext f budget most (Without P) =
-    EndsAtGate f budget most × EndsBelow f budget most Crowded × EndsBelow f budget most (Without N)
+IsNext f budget most (Without row) =
+    EndsAtGate f budget most × EndsBelow f budget most Crowded
+    × ((row ≡ first_out f) ⊎ EndsBelow f budget most (Without (other_row row)))
 
 -- A search within the budget found it.
 abbrev pub IsFoundWithin : Fingers → ℕ → List Column → TrailEvidence → Type 0
@@ -89,7 +90,9 @@ IsVain f budget (Pools c) proved =
 
 -- each search ends without a row and with units left, and those with pools prove at most so many gaps
 abbrev pub AllEndBelow : Fingers → ℕ → ℕ → Type 0
-AllEndBelow f budget most = IsNext f budget most (Without P) × EndsBelow f budget most (Without P)
+AllEndBelow f budget most =
+    EndsAtGate f budget most × EndsBelow f budget most Crowded
+    × EndsBelow f budget most (Without P) × EndsBelow f budget most (Without N)
 
 -- a search spent the budget, and proves at most so many gaps, as those with pools before it do
 abbrev pub IsSpentBelow : Fingers → ℕ → ℕ → Type 0
@@ -107,6 +110,7 @@ pub record IsEitherOpen (f : Fingers) (budget : ℕ) (evidence : TrailEvidence) 
       ⊎ (IsVain f budget evidence proved × (IsSpentBelow f budget proved ⊎ AllEndBelow f budget proved))
 
 -- A search for a certificate of version 1 ends at the gate. Those with pools before and after it can list no lemmas.
+-- For the last two it is only that no text has their lines.
 pub record IsEitherCrowded (f : Fingers) (gate : NetNo) : Type 0 where
   pub longer : (uneven_gates f ≡ []) ⊎ IsPoolCrowded Longer f
   pub filled : IsCrowded f gate

@@ -1,18 +1,18 @@
 -- What inner contracts cite: the best of what searches with pools proved in vain, and how each search ended.
-use Rattle.std.specs.Prelude.{ℕ, ◌≡◌, ◌≤◌, ◌⊎◌, ltb, [], Option, Some, None, IfSome, if◌then◌else◌}
+use Rattle.std.specs.Prelude.{ℕ, ◌≡◌, ◌⊎◌, ltb, [], Option, Some, None, IfSome, if◌then◌else◌}
 use Rattle.cell_num.specs.declared.finger.Fingers.{Fingers}
-use Rattle.cell_num.specs.declared.finger.Row.TheVariants.{P, N}
 use Rattle.cell_num.specs.declared.net.NetNo.{NetNo}
 use Rattle.trail_search.specs.Ended.{IsCrowded}
 use Rattle.trail_search.specs.Filling.{uneven_gates}
 use Rattle.pool_trails.specs.declared.opening.Opening.{Opening}
 use Rattle.pool_trails.specs.declared.opening.Opening.TheVariants.{Crowded, Longer, Without}
 use Rattle.pool_trails.specs.Ended.{IsPoolCrowded}
+use Rattle.pool_trails.specs.Opening.{first_out, other_row}
 use Rattle.trail_either.specs.declared.evidence.TrailEvidence.{TrailEvidence}
 use Rattle.trail_either.specs.declared.evidence.TrailEvidence.TheVariants.{Pools}
 use Rattle.trail_either.specs.declared.found.EitherStop.{EitherStop}
 use Rattle.trail_either.specs.declared.found.EitherStop.TheVariants as stopped
-use Rattle.trail_either.specs.declared.search.InVain.{InVain}
+use Rattle.trail_either.specs.declared.in_vain.InVain.{InVain}
 use Rattle.trail_either.specs.declared.search.PoolsEnd.{PoolsEnd}
 use Rattle.trail_either.specs.declared.search.PoolsEnd.TheVariants.{Found, NoRow}
 use Rattle.trail_either.specs.Ended.{EndsBelow, EndsLonger, HasHalfColumns, IsFound, IsVain}
@@ -62,9 +62,9 @@ GateBy f budget best = LongerBy f budget best × ((gate : NetNo) × IsCrowded f 
 abbrev pub NextBy : Fingers → ℕ → Option InVain → Opening → Type 0
 NextBy f budget best Longer = HasHalfColumns f
 NextBy f budget best Crowded = GateBy f budget best
-NextBy f budget best (Without N) = GateBy f budget best × EndsBy f budget best Crowded
-NextBy f budget best (Without P) =
-    GateBy f budget best × EndsBy f budget best Crowded × EndsBy f budget best (Without N)
+NextBy f budget best (Without row) =
+    GateBy f budget best × EndsBy f budget best Crowded
+    × ((row ≡ first_out f) ⊎ EndsBy f budget best (Without (other_row row)))
 
 -- it ended with a row; or without, and this is the best so far
 abbrev pub IsPoolsEnd : Fingers → ℕ → Opening → PoolsEnd → Type 0

@@ -1,6 +1,5 @@
 ghost use Rattle.std.specs.Prelude.{◌≡◌};
 ghost use Rattle.trail_either.specs.Either.{best_in, either_listing, fill_count, lemma_count};
-ghost use Rattle.trail_either.specs.declared.evidence.TrailEvidence.TheVariants.{Filled};
 
 use bound_log::Best;
 use fewer_log::FewerCertificate;
@@ -14,24 +13,6 @@ pub enum TrailEvidence {
     /// Of version 2: lemmas tell the balances of the pools of gates that are left open. Of version 3: so they do, and
     /// some fingers are left out.
     Pools(FewerCertificate),
-}
-
-fn filled_listing(trails: TrailCertificate, best: Best) -> TrailEvidence
-    ensures { result ≡ either_listing (Filled trails) best }
-{
-    let TrailCertificate {
-        fill,
-        order,
-        lemmas,
-        best: own,
-    } = trails;
-    drop(own);
-    TrailEvidence::Filled(TrailCertificate {
-        fill,
-        order,
-        lemmas,
-        best: Some(best),
-    })
 }
 
 impl TrailEvidence {
@@ -70,7 +51,7 @@ impl TrailEvidence {
         ensures { result ≡ either_listing self best }
     {
         match self {
-            TrailEvidence::Filled(trails) => filled_listing(trails, best),
+            TrailEvidence::Filled(trails) => TrailEvidence::Filled(trails.listing(best)),
             TrailEvidence::Pools(certificate) => TrailEvidence::Pools(certificate.listing(best)),
         }
     }

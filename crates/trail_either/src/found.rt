@@ -13,8 +13,9 @@ pub struct EitherFound {
 /// Why a search ended without a row.
 #[derive(Debug, Drop)]
 pub enum EitherStop {
-    /// The lemmas of the certificate, which lists no row, prove that each arrangement has at least `proved` gaps. The
-    /// budget is spent. Or no search spent it, each arrangement has more gaps, and lemmas prove no more.
+    /// The certificate, which lists no row, proves that each arrangement has at least `proved` gaps. No search with
+    /// pools proves more. The search for it spent the budget, or a later one did that proves no more. Or none spent it,
+    /// and each arrangement has more gaps.
     Unfinished {
         evidence: TrailEvidence,
         proved: u32,

@@ -4,6 +4,7 @@
 mod check;
 mod evidence;
 mod found;
+mod in_vain;
 mod read;
 mod search;
 mod write;

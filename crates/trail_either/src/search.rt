@@ -2,28 +2,23 @@ ghost use Rattle.std.specs.Prelude.{◌≡◌, IfErr, IfOk};
 ghost use Rattle.std.specs.List.{list_any, range_with_len};
 ghost use Rattle.cell_num.specs.Fingers.{AreFingers};
 ghost use Rattle.trail_search.specs.Ended.{IsCrowded};
-ghost use Rattle.trail_search.specs.Filling.{is_uneven};
+ghost use Rattle.open_gates.specs.Open.{is_uneven};
 ghost use Rattle.trail_either.specs.Ended.{IsFound, Stops};
-ghost use Rattle.trail_either.specs.Ends.{IsBest, IsPoolsEnd, LongerBy, NextBy, better, spent_with, told, without_row};
+ghost use Rattle.trail_either.specs.Ends.{EndsBy, IsBest, IsPoolsEnd, LongerBy, NextBy};
+ghost use Rattle.pool_trails.specs.declared.opening.Opening.TheVariants.{Crowded};
 
+use crate::in_vain::{InVain, better, spent, without_row};
 use crate::{EitherFound, EitherStop, TrailEvidence};
-use cell_num::{Fingers, NetNo, Row};
-use fewer_log::FewerCertificate;
-use pool_trails::{Opening, PoolStop, search_pool_row};
+use cell_num::{Fingers, NetNo};
+use open_gates::is_uneven;
+use pool_trails::{Opening, PoolStop, first_out, other_row, search_pool_row};
 use std::alloc::Global;
-use trail_search::{TrailStop, is_uneven, search_trails};
+use trail_search::{TrailStop, search_trails};
 
 fn has_half_columns(fingers: &Fingers) -> bool
     ensures { result ≡ list_any (is_uneven fingers.now) (range_with_len 0 fingers.now.nets) }
 {
     (0..fingers.nets).any(|gate| is_uneven(fingers, gate))
-}
-
-/// A certificate with pools that lists no row. Each arrangement has more gaps than the `proved` ones.
-#[derive(Drop)]
-pub(crate) struct InVain {
-    certificate: FewerCertificate,
-    proved: u32,
 }
 
 /// How a search with pools ended that did not spend its budget.
@@ -32,60 +27,6 @@ enum PoolsEnd {
     Found(EitherFound),
     /// Without a row. The best of what this search and those before it proved.
     NoRow(Option<InVain>),
-}
-
-// The one that proves more gaps, the first of equal ones.
-fn better(one: Option<InVain>, other: Option<InVain>) -> Option<InVain>
-    ensures { result ≡ better one other }
-{
-    match (one, other) {
-        (Some(one), Some(other)) => {
-            if one.proved < other.proved {
-                Some(other)
-            } else {
-                Some(one)
-            }
-        }
-        (Some(one), None) => Some(one),
-        (None, other) => other,
-    }
-}
-
-fn told(vain: InVain) -> EitherStop
-    ensures { result ≡ told vain }
-{
-    EitherStop::Unfinished {
-        evidence: TrailEvidence::Pools(vain.certificate),
-        proved: vain.proved,
-    }
-}
-
-// What a search proves that spent the budget, or the best of before where that is more.
-fn spent(best: Option<InVain>, evidence: TrailEvidence, proved: u32) -> EitherStop
-    ensures { result ≡ spent_with best evidence proved }
-{
-    match best {
-        Some(vain) => {
-            if proved < vain.proved {
-                drop(evidence);
-                told(vain)
-            } else {
-                drop(vain);
-                EitherStop::Unfinished { evidence, proved }
-            }
-        }
-        None => EitherStop::Unfinished { evidence, proved },
-    }
-}
-
-// The best of what searches with pools proved in vain, or the gate.
-fn without_row(gate: NetNo, best: Option<InVain>) -> EitherStop
-    ensures { result ≡ without_row gate best }
-{
-    match best {
-        Some(vain) => told(vain),
-        None => EitherStop::Choices { gate },
-    }
 }
 
 // A search with pools. Where it spends the budget, that is the end.
@@ -137,8 +78,41 @@ fn search_pools(
     }
 }
 
+// With fingers of one row left out where they pair in too many ways: first of the row where fewer columns are lost.
+fn search_without(
+    alloc: Global,
+    fingers: &Fingers,
+    budget: u64,
+    gate: NetNo,
+    best: Option<InVain>,
+) -> Result<EitherFound, EitherStop>
+    requires fingers { AreFingers fingers.now }
+    requires crowded { NextBy fingers.now budget best Crowded × EndsBy fingers.now budget best Crowded }
+    requires best { IsBest fingers.now budget best }
+    requires gate { IsCrowded fingers.now gate }
+    ensures found { IfOk result (IsFound fingers.now budget) }
+    ensures stopped { IfErr result (Stops fingers.now budget) }
+{
+    let first = match first_out(alloc, fingers) {
+        Ok(first) => first,
+        Err(_) => {
+            drop(best);
+            return Err(EitherStop::NoMemory);
+        }
+    };
+    let best = match search_pools(alloc, fingers, Opening::Without(first), budget, best)? {
+        PoolsEnd::Found(found) => return Ok(found),
+        PoolsEnd::NoRow(best) => best,
+    };
+    let second = other_row(first);
+    match search_pools(alloc, fingers, Opening::Without(second), budget, best)? {
+        PoolsEnd::Found(found) => Ok(found),
+        PoolsEnd::NoRow(best) => Err(without_row(gate, best)),
+    }
+}
+
 // After a search for version 1 that ended at the gate: with pools of those gates alone that have too many ways to be
-// filled, then with fingers of one row left out where they pair in too many ways.
+// filled, then with fingers left out.
 fn search_crowded(
     alloc: Global,
     fingers: &Fingers,
@@ -153,17 +127,9 @@ fn search_crowded(
     ensures found { IfOk result (IsFound fingers.now budget) }
     ensures stopped { IfErr result (Stops fingers.now budget) }
 {
-    let best = match search_pools(alloc, fingers, Opening::Crowded, budget, best)? {
-        PoolsEnd::Found(found) => return Ok(found),
-        PoolsEnd::NoRow(best) => best,
-    };
-    let best = match search_pools(alloc, fingers, Opening::Without(Row::N), budget, best)? {
-        PoolsEnd::Found(found) => return Ok(found),
-        PoolsEnd::NoRow(best) => best,
-    };
-    match search_pools(alloc, fingers, Opening::Without(Row::P), budget, best)? {
+    match search_pools(alloc, fingers, Opening::Crowded, budget, best)? {
         PoolsEnd::Found(found) => Ok(found),
-        PoolsEnd::NoRow(best) => Err(without_row(gate, best)),
+        PoolsEnd::NoRow(best) => search_without(alloc, fingers, budget, gate, best),
     }
 }
 
@@ -204,10 +170,10 @@ fn search_filled(
 /// what is proved when the budget is spent. Where some gate has half columns, `search_pool_row` leaves open those of
 /// one row first, since far fewer choices are listed so. Where no gate has any, or that ends without a row though
 /// units are left, `search_trails` is next. Where it ends at a gate, `search_pool_row` leaves open the gates alone that
-/// have too many ways to be filled. Then it leaves out the fingers of one row on gates that pair in too many ways:
-/// first those of the N row. Each has the whole budget, and where one spends it, that is the end. Without a row the
-/// result is the greatest number of gaps that the last search or one with pools proved. Where no search with pools
-/// could list lemmas and none spent its budget, it is that gate.
+/// have too many ways to be filled. Then it leaves out the fingers of one row on gates that pair in too many ways. The
+/// row where fewer columns are lost is first. Each has the whole budget, and where one spends it, that is the end.
+/// Without a row the result is the greatest number of gaps that the last search or one with pools proved. Where no
+/// search with pools could list lemmas and none spent its budget, it is that gate.
 pub fn search_either(
     alloc: Global,
     fingers: &Fingers,

@@ -2,6 +2,7 @@
 pub mod Fits
 pub mod Line
 pub mod Listed
+pub mod Listing
 pub mod Order
 pub mod Reading
 pub mod Spelling

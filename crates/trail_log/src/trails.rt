@@ -1,3 +1,6 @@
+ghost use Rattle.std.specs.Prelude.{◌≡◌};
+ghost use Rattle.trail_log.specs.Listing.{trails_listing};
+
 use crate::{ClassList, NetList, NetPairs};
 use bound_log::{Best, Ending};
 use cell_num::List;
@@ -33,4 +36,25 @@ pub struct TrailCertificate {
     pub order: NetList,
     pub lemmas: LemmaLines,
     pub best: Option<Best>,
+}
+
+impl TrailCertificate {
+    /// The certificate with this row in place of its own.
+    pub fn listing(self, best: Best) -> TrailCertificate
+        ensures { result ≡ trails_listing self best }
+    {
+        let TrailCertificate {
+            fill,
+            order,
+            lemmas,
+            best: own,
+        } = self;
+        drop(own);
+        TrailCertificate {
+            fill,
+            order,
+            lemmas,
+            best: Some(best),
+        }
+    }
 }

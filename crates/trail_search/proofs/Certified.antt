@@ -1,5 +1,5 @@
 -- The first row of the proved number is the first least one, and its certificate is accepted.
-use Rattle.std.proofs.Common.{ℕ, ◌≡◌, ◌+◌, ◌*◌, ◌<◌, ◌≤◌, ◌⊎◌, List, [], ◌∷◌, Some, IsNone, length, refl, sym, ap, subst, arith, inl, inr, ◌∙◌}
+use Rattle.std.proofs.Common.{ℕ, ◌≡◌, ◌+◌, ◌-◌, ◌*◌, ◌<◌, ◌≤◌, ◌⊎◌, List, [], ◌∷◌, Some, IsNone, length, refl, sym, ap, subst, arith, inl, inr, ◌∙◌}
 use Rattle.std.specs.Prelude.{slice_get}
 use Rattle.std.specs.List.{zip}
 use Rattle.std.proofs.lemmas.Bool.{cases_lt}
@@ -25,6 +25,7 @@ use Rattle.row_search.specs.Steps.{row_of, steps_of}
 use Rattle.row_search.proofs.Columns.{all_fit, all_listed, listed_row}
 use Rattle.row_search.proofs.Least.{further_le}
 use Rattle.trail_log.specs.Fits.{TrailsFit}
+use Rattle.trail_log.specs.Listing.{trails_listing}
 use Rattle.trail_check.specs.Accepted.{IsLow, least_gaps}
 use Rattle.open_gates.specs.Leveled.{levels_in, levels_of}
 use Rattle.open_gates.specs.Open.{open_in}
@@ -38,7 +39,7 @@ use Rattle.trail_search.specs.Proof.{HasReached, IsMostOf, IsProof, lemma_units}
 use Rattle.trail_search.proofs.Proving.{closed_levels, ends_more}
 use Rattle.trail_search.specs.declared.first.ListedRow.{ListedRow}
 use Rattle.trail_search.specs.Ended.{IsCertified, IsOpenedInVain, IsTrailFound, IsTrailSpent, WentForLemmas, WentForRows}
-use Rattle.trail_search.specs.First.{IsFirstRow, with_best}
+use Rattle.trail_search.specs.First.{IsFirstRow}
 use Rattle.trail_search.specs.Visit.{IsFirstOf}
 
 -- some arrangement has no more gaps than columns
@@ -47,9 +48,10 @@ few_gaps k f gaps of_f kinds low =
     let c : (row : List Column) × Completes k (start_of k) row = completion_exists k (start_of k) (gates_are_nets k kinds) in
     omega (arith, low c.0 (arrangement_of f k c.0 of_f c.1), gaps_from_start k c.0, further_le (start_of k) c.0, c.1.fewest, kinds.few_columns)
 
-pub row_gaps : (row : List Column) → length row ≤ 32 → gaps_of row ≤ 31
-row_gaps [] few = omega arith
-row_gaps (c ∷ cs) few = omega (arith, few, count_by-le-length is_gap (zip (c ∷ cs) cs), length-zip (c ∷ cs) cs)
+-- a row has fewer gaps than columns
+pub less_by_one : (row : List Column) → gaps_of row ≤ length row - 1
+less_by_one [] = omega arith
+less_by_one (c ∷ cs) = omega (arith, count_by-le-length is_gap (zip (c ∷ cs) cs), length-zip (c ∷ cs) cs)
 
 -- no lemmas prove more than 31 gaps, since some arrangement has no more
 pub most_proved : (k : Kinds) (f : Fingers) (proof : Proof) → AreFingers f → AreKinds f k → AreSomeKinds k → IsProof f proof → (proof.gaps < 31 → IsMostOf (levels_for f proof.trails) proof.gaps) → IsMostOf (levels_for f proof.trails) proof.gaps
@@ -58,7 +60,7 @@ most_proved k f proof ok of_f kinds p few = elim (cases_lt proof.gaps 31) [
   | inr above ↦ λ ends.
       let c : (row : List Column) × Completes k (start_of k) row = completion_exists k (start_of k) (gates_are_nets k kinds) in
       let more : proof.gaps < gaps_of c.0 = ends_more f proof.trails proof.gaps ok p.gates ends c.0 (arrangement_of f k c.0 of_f c.1) in
-      omega (arith, above, more, row_gaps c.0 (omega (arith, c.1.fewest, kinds.few_columns)))
+      omega (arith, above, more, less_by_one c.0, c.1.fewest, kinds.few_columns)
 ]
 
 -- Where no gate is left open, some arrangement has no more gaps than that, and none has fewer.
@@ -96,7 +98,7 @@ row_passes k f gaps proved steps of_f kinds low few h =
       least = few;
     }
 
-certified : (k : Kinds) (f : Fingers) (proof : Proof) (steps : List Step) → AreKinds f k → AreSomeKinds k → IsProof f proof → IsFirstOf k (start_of k) proof.gaps steps → IsCertified k f (row_of k steps) (with_best proof.trails (best_with k proof.gaps steps))
+certified : (k : Kinds) (f : Fingers) (proof : Proof) (steps : List Step) → AreKinds f k → AreSomeKinds k → IsProof f proof → IsFirstOf k (start_of k) proof.gaps steps → IsCertified k f (row_of k steps) (trails_listing proof.trails (best_with k proof.gaps steps))
 certified k f proof steps of_f kinds p h =
     let fits : TrailsFit k proof.trails = p.fits k of_f.nets in
     record {
@@ -116,9 +118,9 @@ certified k f proof steps of_f kinds p h =
       };
     }
 
-pub found_is : (k : Kinds) (f : Fingers) (budget : ℕ) (proof : Proof) (listed : ListedRow) → AreKinds f k → AreSomeKinds k → IsProof f proof → IsFirstRow k proof.gaps listed → lemma_units f proof.trails ≤ budget → IsTrailFound f budget listed.row (with_best proof.trails listed.best)
+pub found_is : (k : Kinds) (f : Fingers) (budget : ℕ) (proof : Proof) (listed : ListedRow) → AreKinds f k → AreSomeKinds k → IsProof f proof → IsFirstRow k proof.gaps listed → lemma_units f proof.trails ≤ budget → IsTrailFound f budget listed.row (trails_listing proof.trails listed.best)
 found_is k f budget proof listed of_f kinds p h kept =
-    subst (λ (z : ListedRow). IsTrailFound f budget z.row (with_best proof.trails z.best)) (sym h.is)
+    subst (λ (z : ListedRow). IsTrailFound f budget z.row (trails_listing proof.trails z.best)) (sym h.is)
     (record {
       first = first_least k f proof.gaps h.steps of_f p.least h.first;
       certified = (k, of_f, kinds, certified k f proof h.steps of_f kinds p h.first);

@@ -8,9 +8,9 @@ use Rattle.cell_num.specs.Fingers.{AreFingers}
 use Rattle.trail_state.specs.declared.level.Level.{Level}
 use Rattle.trail_state.specs.Levels.{IsOrder}
 use Rattle.open_gates.specs.Leveled.{levels_in, levels_of, merged_levels}
-use Rattle.open_gates.specs.Open.{closed_in, is_unfilled, open_in}
+use Rattle.open_gates.specs.Open.{closed_in, is_uneven, is_unfilled, open_in}
 use Rattle.trail_check.specs.Gates.{first_with_many, has_many_ways}
-use Rattle.trail_search.specs.Filling.{filled_gates, is_uneven, longer_gates, opened_gates}
+use Rattle.trail_search.specs.Filling.{filled_gates, longer_gates, opened_gates}
 use Rattle.trail_search.proofs.Finds.{all_left, none_both}
 use Rattle.trail_search.proofs.Opening.{none_unfilled}
 

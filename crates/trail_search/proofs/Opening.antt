@@ -13,9 +13,9 @@ use Rattle.cell_num.specs.declared.finger.Fingers.{Fingers}
 use Rattle.cell_num.specs.Fingers.{AreFingers, on_gate}
 use Rattle.trail_state.specs.Levels.{IsGate, IsOrder}
 use Rattle.trail_state.proofs.Members.{Passes, passes_from, passes_to}
-use Rattle.open_gates.specs.Open.{AreOpenGates, HasMore, fingers_at, fingers_beside, has_more, is_unfilled, open_in, row_of}
+use Rattle.open_gates.specs.Open.{AreOpenGates, HasMore, fingers_at, fingers_beside, has_more, is_uneven, is_unfilled, open_in, row_of}
 use Rattle.open_gates.proofs.Decided.{more_decides}
-use Rattle.trail_search.specs.Filling.{crowded_gates, filled_gates, is_one_of, is_uneven, opened_gates, uneven_gates}
+use Rattle.trail_search.specs.Filling.{crowded_gates, filled_gates, is_one_of, opened_gates, uneven_gates}
 use Rattle.trail_search.proofs.Orders.{uneven_has}
 
 -- a row that has more fingers on the first of some gates is the longer one
@@ -34,33 +34,45 @@ no_member : (gates : List NetNo) → ((g : NetNo) → Contains gates g → ⊥) 
 no_member [] none = refl
 no_member (g ∷ gs) none = absurd (none g (contains_here g gs))
 
-module _ (f : Fingers) (ok : AreFingers f) (order : List NetNo) (is : IsOrder f order) where
-  abbrev row : Row
-  row = row_of f (crowded_gates f order)
+-- gates that were taken for their row have more fingers in it
+pub having_more : (row : Row) (f : Fingers) (gates : List NetNo) (g : NetNo) → Contains (filter (has_more row f) gates) g → HasMore row f g
+having_more row f gates g there = (more_decides row f g).0 (passes_from (has_more row f) gates g there).passes
 
-  unfilled_opened : (g : NetNo) → Contains (filter (is_unfilled f (filled_gates f order)) order) g → is_one_of (opened_gates f order) g ≡ true
+-- the gates with half columns that are filled where these are left open
+abbrev filled_beside : Fingers → List NetNo → List NetNo
+filled_beside f left_open = filter (λ gate. not (is_one_of left_open gate)) (uneven_gates f)
+
+module _ (f : Fingers) (ok : AreFingers f) (order : List NetNo) (is : IsOrder f order) (left_open : List NetNo) where
+  unfilled_opened : (g : NetNo) → Contains (filter (is_unfilled f (filled_beside f left_open)) order) g → is_one_of left_open g ≡ true
   unfilled_opened g there =
-      let p : Passes (is_unfilled f (filled_gates f order)) order g = passes_from (is_unfilled f (filled_gates f order)) order g there in
-      let parts : (is_uneven f g.0 ≡ true) × (not (is_one_of (filled_gates f order) g) ≡ true) = and_parts (is_uneven f g.0) (not (is_one_of (filled_gates f order) g)) p.passes in
+      let p : Passes (is_unfilled f (filled_beside f left_open)) order g = passes_from (is_unfilled f (filled_beside f left_open)) order g there in
+      let parts : (is_uneven f g.0 ≡ true) × (not (is_one_of (filled_beside f left_open) g) ≡ true) = and_parts (is_uneven f g.0) (not (is_one_of (filled_beside f left_open) g)) p.passes in
       let listed : Contains (uneven_gates f) g = uneven_has f g ok (All-contains (λ (h : NetNo). IsGate f h.0) order g is.gates p.there) parts.0 in
-      elim (cases_Bool (is_one_of (opened_gates f order) g)) [
+      elim (cases_Bool (is_one_of left_open g)) [
         | inl opened ↦ opened
         | inr filled ↦
-            let there : Contains (filled_gates f order) g = passes_to (λ (h : NetNo). not (is_one_of (opened_gates f order) h)) (uneven_gates f) g listed (not_from_false (is_one_of (opened_gates f order) g) filled) in
-            absurd (both_ways (is_one_of (filled_gates f order) g) (not-true (is_one_of (filled_gates f order) g) parts.1) (test_there (λ (h : NetNo). h.0 == g.0) (filled_gates f order) g there (eq-eqb g.0 g.0 refl)))
+            let there : Contains (filled_beside f left_open) g = passes_to (λ (h : NetNo). not (is_one_of left_open h)) (uneven_gates f) g listed (not_from_false (is_one_of left_open g) filled) in
+            absurd (both_ways (is_one_of (filled_beside f left_open) g) (not-true (is_one_of (filled_beside f left_open) g) parts.1) (test_there (λ (h : NetNo). h.0 == g.0) (filled_beside f left_open) g there (eq-eqb g.0 g.0 refl)))
       ]
 
-  unfilled_more : (g : NetNo) → Contains (filter (is_unfilled f (filled_gates f order)) order) g → HasMore row f g
-  unfilled_more g there =
-      let s : Some' (λ (h : NetNo). (h.0 == g.0) ≡ true) (opened_gates f order) = test_finds (λ (h : NetNo). h.0 == g.0) (opened_gates f order) (unfilled_opened g there) in
-      let more : HasMore row f s.it = (more_decides row f s.it).0 (passes_from (has_more row f) (crowded_gates f order) s.it s.there).passes in
-      subst (λ k. on_gate k (fingers_beside row f) < on_gate k (fingers_at row f)) (eqb-true s.it.0 g.0 s.holds) more
+  -- where each of these has more fingers in one row, so has each that is not filled
+  module _ (row : Row) (more : (g : NetNo) → Contains left_open g → HasMore row f g) where
+    unfilled_more : (g : NetNo) → Contains (filter (is_unfilled f (filled_beside f left_open)) order) g → HasMore row f g
+    unfilled_more g there =
+        let s : Some' (λ (h : NetNo). (h.0 == g.0) ≡ true) left_open = test_finds (λ (h : NetNo). h.0 == g.0) left_open (unfilled_opened g there) in
+        subst (λ k. on_gate k (fingers_beside row f) < on_gate k (fingers_at row f)) (eqb-true s.it.0 g.0 s.holds) (more s.it s.there)
 
+    pub opened_with : AreOpenGates f (open_in f (filled_beside f left_open) order)
+    opened_with =
+        let gates : List NetNo = filter (is_unfilled f (filled_beside f left_open)) order in
+        longer_is f row gates (all_from_contains (HasMore row f) gates unfilled_more)
+
+module _ (f : Fingers) (ok : AreFingers f) (order : List NetNo) (is : IsOrder f order) where
   -- where none is left open, each is filled
   pub none_unfilled : opened_gates f order ≡ [] → filter (is_unfilled f (filled_gates f order)) order ≡ []
-  none_unfilled none = no_member (filter (is_unfilled f (filled_gates f order)) order) (λ g there. both_ways (is_one_of (opened_gates f order) g) (ap (λ gs. is_one_of gs g) none) (unfilled_opened g there))
+  none_unfilled none = no_member (filter (is_unfilled f (filled_gates f order)) order) (λ g there. both_ways (is_one_of (opened_gates f order) g) (ap (λ gs. is_one_of gs g) none) (unfilled_opened f ok order is (opened_gates f order) g there))
 
   pub open_gates_are : AreOpenGates f (open_in f (filled_gates f order) order)
   open_gates_are =
-      let gates : List NetNo = filter (is_unfilled f (filled_gates f order)) order in
-      longer_is f row gates (all_from_contains (HasMore row f) gates unfilled_more)
+      let row : Row = row_of f (crowded_gates f order) in
+      opened_with f ok order is (opened_gates f order) row (having_more row f (crowded_gates f order))

@@ -23,7 +23,8 @@ use Rattle.trail_state.proofs.Sizes.{sum_keys}
 use Rattle.trail_log.specs.Order.{increases, net_rank}
 use Rattle.trail_log.specs.Fits.{NetFits}
 use Rattle.trail_search.specs.Order.{gates_of, has_finger}
-use Rattle.trail_search.specs.Filling.{filled_gates, is_one_of, is_uneven, opened_gates, uneven_gates}
+use Rattle.open_gates.specs.Open.{is_uneven}
+use Rattle.trail_search.specs.Filling.{filled_gates, is_one_of, opened_gates, uneven_gates}
 
 -- ---- numbers in order
 

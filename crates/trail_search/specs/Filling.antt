@@ -1,17 +1,12 @@
 -- Which gates with half columns a search fills, which it leaves open, and the levels that it has then.
-use Rattle.std.specs.Prelude.{ℕ, ◌==◌, ◌&&◌, Bool, not, List, map}
+use Rattle.std.specs.Prelude.{◌==◌, ◌&&◌, Bool, not, List, map}
 use Rattle.std.specs.List.{filter, list_any, range_with_len}
 use Rattle.cell_num.specs.declared.net.NetNo.{NetNo}
 use Rattle.cell_num.specs.declared.finger.Fingers.{Fingers}
-use Rattle.cell_num.specs.Fingers.{on_gate}
 use Rattle.trail_state.specs.declared.level.Level.{Level}
 use Rattle.open_gates.specs.Leveled.{levels_in}
-use Rattle.open_gates.specs.Open.{closed_in, has_more, open_in, row_of}
+use Rattle.open_gates.specs.Open.{closed_in, has_more, is_uneven, open_in, row_of}
 use Rattle.trail_check.specs.Gates.{has_many_ways}
-
--- more fingers of the gate in one row than in the other
-abbrev pub is_uneven : Fingers → ℕ → Bool
-is_uneven f gate = not (on_gate gate f.p == on_gate gate f.n)
 
 -- the gates with half columns, in the order of their numbers
 abbrev pub uneven_gates : Fingers → List NetNo

@@ -1,12 +1,10 @@
 -- The first row of so many gaps, as a certificate lists it.
-use Rattle.std.specs.Prelude.{ℕ, ◌≡◌, List, Some}
+use Rattle.std.specs.Prelude.{ℕ, ◌≡◌, List}
 use Rattle.row_state.specs.declared.kind.Kinds.{Kinds}
 use Rattle.row_state.specs.declared.step.Step.{Step}
 use Rattle.row_state.specs.Start.{start_of}
-use Rattle.bound_log.specs.declared.log.Best.{Best}
 use Rattle.row_search.specs.Limits.{best_with}
 use Rattle.row_search.specs.Steps.{row_of}
-use Rattle.trail_log.specs.declared.trails.TrailCertificate.{TrailCertificate}
 use Rattle.trail_search.specs.declared.first.ListedRow.{ListedRow}
 use Rattle.trail_search.specs.Visit.{IsFirstOf}
 
@@ -18,7 +16,3 @@ pub record IsFirstRow (k : Kinds) (gaps : ℕ) (listed : ListedRow) : Type 0 whe
   pub steps : List Step
   pub is : listed ≡ listed_of k gaps steps
   pub first : IsFirstOf k (start_of k) gaps steps
-
--- the certificate with this row
-abbrev pub with_best : TrailCertificate → Best → TrailCertificate
-with_best trails best = record { fill = trails.fill; order = trails.order; lemmas = trails.lemmas; best = Some best }

@@ -1,13 +1,13 @@
 ghost use Rattle.std.specs.Prelude.{◌≡◌, IfOk, not};
 ghost use Rattle.std.specs.List.{filter};
 ghost use Rattle.cell_num.specs.Fingers.{AreFingers};
-ghost use Rattle.open_gates.specs.Open.{has_more};
-ghost use Rattle.trail_search.specs.Filling.{crowded_gates, is_crowded, is_one_of, is_uneven};
+ghost use Rattle.open_gates.specs.Open.{has_more, is_uneven};
+ghost use Rattle.trail_search.specs.Filling.{crowded_gates, is_crowded, is_one_of};
 ghost use Rattle.trail_search.specs.Filling.{longer_gates, opened_gates, uneven_gates};
 ghost use Rattle.trail_search.specs.Order.{gates_of, has_finger};
 
 use cell_num::{Fingers, List, NetNo, NoMemory, Row};
-use open_gates::{has_more, row_of};
+use open_gates::{has_more, is_uneven, row_of};
 use std::alloc::{AllocError, Global};
 use trail_check::has_many_ways;
 use trail_log::NetList;
@@ -17,13 +17,6 @@ fn has_finger(fingers: &Fingers, gate: u32) -> bool
     ensures { result ≡ has_finger fingers.now gate }
 {
     count_on(fingers.p.as_slice(), gate) > 0 || count_on(fingers.n.as_slice(), gate) > 0
-}
-
-/// Whether the gate has more fingers in one row than in the other: half columns.
-pub fn is_uneven(fingers: &Fingers, gate: u32) -> bool
-    ensures { result ≡ is_uneven fingers.now gate }
-{
-    count_on(fingers.p.as_slice(), gate) != count_on(fingers.n.as_slice(), gate)
 }
 
 /// The gates of the fingers, in the order of their numbers.

@@ -27,5 +27,5 @@ pub use attempts::Attempts;
 pub use first::{ListedRow, first_row};
 pub use found::{TrailFound, TrailStop};
 pub use gate_order::order;
-pub use gates::{fill, having_more, is_uneven, opened};
+pub use gates::{fill, having_more, opened};
 pub use search::search_trails;

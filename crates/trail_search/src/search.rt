@@ -2,29 +2,15 @@ ghost use Rattle.std.specs.Prelude.{◌≡◌, IfErr, IfOk, slice_get};
 ghost use Rattle.cell_num.specs.Fingers.{AreFingers};
 ghost use Rattle.trail_search.specs.declared.found.TrailStop.TheVariants as stopped;
 ghost use Rattle.trail_search.specs.Ended.{IsFound, Stops};
-ghost use Rattle.trail_search.specs.First.{with_best};
 ghost use Rattle.trail_search.specs.Searched.{attempts_by};
 
 use crate::first::first_row;
 use crate::limits::prove;
 use crate::proof::{Proof, ProveStop};
 use crate::{Attempts, TrailFound, TrailStop};
-use bound_log::Best;
 use cell_num::{Fingers, Halt, NetNo};
 use row_state::kinds;
 use std::alloc::Global;
-use trail_log::TrailCertificate;
-
-fn with_row(trails: TrailCertificate, best: Best) -> TrailCertificate
-    ensures { result ≡ with_best trails best }
-{
-    TrailCertificate {
-        fill: trails.fill,
-        order: trails.order,
-        lemmas: trails.lemmas,
-        best: Some(best),
-    }
-}
 
 fn unfinished(proof: Proof) -> TrailStop
     ensures { result ≡ stopped.Unfinished proof.trails proof.gaps }
@@ -73,7 +59,7 @@ pub fn search_trails(alloc: Global, fingers: &Fingers, budget: u64) -> Result<Tr
     match first_row(alloc, &kinds, proof.gaps, attempts(&proof), left) {
         Ok(Some(first)) => Ok(TrailFound {
             row: first.row,
-            trails: with_row(proof.trails, first.best),
+            trails: proof.trails.listing(first.best),
         }),
         // With no gate left open, some row has as few gaps as the lemmas prove.
         Ok(None) => match first_opened(&proof) {

@@ -19,4 +19,4 @@ returns-clause-proof c =
     rw c.in-Some.is at c.in_ok-listed.ensures.listed in
     proof_by c.args.fingers.now c.args.gates.now c.requires.gates c.args.kinds.now c.in_ok-along.along
     c.args.budget c.in_ok-proof.proof c.as_slice.result.now
-    c.as_slice.ensures c.in_ok-along.ensures.along c.in_ok-proof.ensures c.in-Some.pools fits listed
+    c.as_slice.ensures c.in_ok-along.ensures.along c.in_ok-proof.ensures c.requires.fingers c.in-Some.pools fits listed

@@ -1,7 +1,7 @@
-use Rattle.std.proofs.Common.{IfErr, IfOk, subst}
+use Rattle.std.proofs.Common.{rules, IfErr, IfOk, subst}
 use Rattle.pool_trails.specs.declared.opening.Opening.{Opening}
 use Rattle.pool_trails.specs.Ended.{IsPoolFound, IsPoolStopped}
-use Rattle.pool_trails.proofs.Counted.{others_are}
+use Rattle.pool_trails.proofs.Stopped.{stopped_as}
 use Rattle.pool_trails.proofs.search.search_pool_row.Goals as goal
 
 pub returns-clause-found : goal.returns-clause-found
@@ -16,12 +16,11 @@ returns-clause-stopped c =
     (IsPoolStopped opening c.args.fingers.now c.args.budget)) c.in_ok-gates.ensures.opening
     c.row_of.ensures.stopped
 
-pub pool_gates-requires : goal.pool_gates-requires
-pool_gates-requires c =
-    others_are c.args.fingers.now c.requires c.args.opening c.in_ok-out.out c.in_ok-others.others c.in_ok-out.ensures
-    c.in_ok-others.ensures
-
-pub proof_along-requires-clause-fingers : goal.proof_along-requires-clause-fingers
-proof_along-requires-clause-fingers c =
-    others_are c.args.fingers.now c.requires c.args.opening c.in_ok-out.out c.in_ok-others.others c.in_ok-out.ensures
-    c.in_ok-others.ensures
+pub returns-in_err-proof-clause-stopped : goal.returns-in_err-proof-clause-stopped
+returns-in_err-proof-clause-stopped c =
+    let stopped =
+    stopped_as c.args.fingers.now c.requires c.in_ok-kinds.kinds c.in_ok-kinds.ensures.kinds c.in_ok-kinds.ensures.sound
+    c.args.budget c.args.opening c.in_ok-gates.gates.opening c.in_ok-out.out c.in_ok-others.others
+    c.in_err-proof.field-0.0 c.in_ok-out.ensures c.in_ok-others.ensures.staying c.in_ok-gates.ensures.opening
+    c.in_err-proof.ensures.stopped in
+    search rules

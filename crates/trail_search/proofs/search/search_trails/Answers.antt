@@ -34,7 +34,7 @@ first_row-requires c = record { few = few_gaps c.in_ok-kinds.kinds c.args.finger
 pub returns-in-Ok-Some-clause-found : goal.returns-in-Ok-Some-clause-found
 returns-in-Ok-Some-clause-found c =
     let first : IsFirstRow c.in_ok-kinds.kinds c.in-Ok.proof.gaps c.in-Ok-Some.first = rw c.in-Ok-Some.field-0-is at c.in-Ok-Some.ensures.found in
-    subst (λ (z : TrailCertificate). IsTrailFound c.args.fingers.now c.args.budget c.in-Ok-Some.first.row z) (sym c.with_row.ensures) (found_is c.in_ok-kinds.kinds c.args.fingers.now c.args.budget c.in-Ok.proof c.in-Ok-Some.first c.in_ok-kinds.ensures.kinds c.in_ok-kinds.ensures.sound c.in-Ok.ensures.proof first (omega (arith, c.in-Ok.ensures.units.few)))
+    subst (λ (z : TrailCertificate). IsTrailFound c.args.fingers.now c.args.budget c.in-Ok-Some.first.row z) (sym c.listing.ensures) (found_is c.in_ok-kinds.kinds c.args.fingers.now c.args.budget c.in-Ok.proof c.in-Ok-Some.first c.in_ok-kinds.ensures.kinds c.in_ok-kinds.ensures.sound c.in-Ok.ensures.proof first (omega (arith, c.in-Ok.ensures.units.few)))
 
 pub returns-in-Some-clause-stopped : goal.returns-in-Some-clause-stopped
 returns-in-Some-clause-stopped c =
