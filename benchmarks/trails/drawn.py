@@ -33,15 +33,15 @@ def uneven_fingers(draw, most_columns=6):
     return fingers if columns_of(fingers) <= most_columns else uneven_fingers(draw, most_columns)
 
 
-def with_big_gate(draw, kinds, copies, others, widths, on_gate):
-    """The first gate has some kinds of fingers in each row, each some times. The others have as many as drawn from `on_gate`."""
-    nets = draw.randint(others + 3, others + 7)
+def with_big_gates(draw, big, kinds, copies, others, widths, on_gate):
+    """The first gates have some kinds of fingers in each row, each some times. The others have as many as drawn from `on_gate`."""
+    nets = draw.randint(big + others + 2, big + others + 6)
 
     def ends():
         return sorted(draw.choices(range(nets), k=2) if draw.random() < 0.1 else draw.sample(range(nets), 2))
-    rows = [[Finger(0, *ends(), draw.choice(widths)) for _ in range(draw.choice(kinds))] for _ in range(2)]
+    rows = [[Finger(gate, *ends(), draw.choice(widths)) for gate in range(big) for _ in range(draw.choice(kinds))] for _ in range(2)]
     rows = [[one for one in row for _ in range(draw.choice(copies))] for row in rows]
-    for gate in range(1, others + 1):
+    for gate in range(big, big + others):
         for row, on in zip(rows, draw.choice(on_gate)):
             row += [Finger(gate, *ends(), draw.choice(widths)) for _ in range(on)]
     return Fingers([f"n{net}" for net in range(nets)], *rows)
@@ -49,13 +49,23 @@ def with_big_gate(draw, kinds, copies, others, widths, on_gate):
 
 def thick_fingers(draw, most_columns=6):
     """A gate of two to four columns, and up to three others."""
-    fingers = with_big_gate(draw, (1, 2, 2, 3), (1, 1, 2), draw.randint(0, 3), (6,), ON_GATE)
+    fingers = with_big_gates(draw, 1, (1, 2, 2, 3), (1, 1, 2), draw.randint(0, 3), (6,), ON_GATE)
     return fingers if columns_of(fingers) <= most_columns else thick_fingers(draw, most_columns)
 
 
+def with_crowded_gates(draw, crowded, copies, others, most_columns):
+    """The first gates have so many fingers that each has too many ways, even if it stays open, the others at most one half column."""
+    while True:
+        fingers = with_big_gates(draw, crowded, (3, 4), copies, draw.randint(*others), (10, 10, 20), ON_GATE[:5])
+        if columns_of(fingers) <= most_columns and all(PoolLevels(fingers, [gate], []).crowded is not None for gate in range(crowded)):
+            return fingers
+
+
 def crowded_fingers(draw, most_columns=32):
-    """A gate of so many fingers that it has too many ways, even if it stays open, and two to four others of at most one half column."""
-    fingers = with_big_gate(draw, (3, 4), (3, 4, 5), draw.randint(2, 4), (10, 10, 20), ON_GATE[:5])
-    if columns_of(fingers) <= most_columns and PoolLevels(fingers, [0], []).crowded == 0:
-        return fingers
-    return crowded_fingers(draw, most_columns)
+    """A gate with too many ways and two to four others."""
+    return with_crowded_gates(draw, 1, (3, 4, 5), (2, 4), most_columns)
+
+
+def twice_crowded_fingers(draw, most_columns=32):
+    """Two gates with too many ways and one or two others. Either row may have more fingers on each of the two."""
+    return with_crowded_gates(draw, 2, (2, 3, 4), (1, 2), most_columns)

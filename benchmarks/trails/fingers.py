@@ -70,6 +70,10 @@ def columns_on(fingers):
     return {gate: (max(p[gate], n[gate]), abs(p[gate] - n[gate])) for gate in sorted(p | n)}
 
 
+def has_more_p(fingers, gate):
+    return sum(one.gate == gate for one in fingers.p) > sum(one.gate == gate for one in fingers.n)
+
+
 def columns_of(fingers):
     return sum(columns for columns, _ in columns_on(fingers).values())
 

@@ -1,10 +1,10 @@
 """What a check says of certificates by trails of versions 2 and 3, as docs/FORMATS.md has it. It shares no code with the program."""
 from collections import Counter
 
-from fingers import columns_of
-from left_out import may_leave_out, staying
+from fingers import columns_of, columns_on
+from left_out import columns_lost, staying
 from pool_text import Fault, Reader
-from pools import PoolLevels, State, is_pool
+from pools import PoolLevels, State, is_pool, may_fill
 from trails import Lemma, gaps_proved
 
 
@@ -64,22 +64,19 @@ def gaps_in(columns):
 def check(fingers, name, text):
     """The certificate and the gaps that it proves; a Fault tells what `check` reports of any other text."""
     certificate = Reader(fingers, name).read(text)
-    out = certificate.out
-    if out is not None and not may_leave_out(fingers, out):
+    stay = staying(fingers, certificate.out)
+    if sorted(certificate.order) != list(columns_on(stay)) or not may_fill(stay, certificate.fill):
         raise Fault("trails Gates")
-    gates = {one.gate for one in [*fingers.p, *fingers.n]}
-    if sorted(certificate.order) != sorted(gates):
-        raise Fault("trails Gates")
-    levels = PoolLevels(staying(fingers, out), certificate.order, certificate.fill)
+    levels = PoolLevels(stay, certificate.order, certificate.fill)
     if levels.crowded is not None:
         raise Fault(f"trails Choices gate {fingers.nets[levels.crowded]}")
-    first = 5 if out is None else 7
+    first = 5 if certificate.out is None else 7
     for at, line in enumerate(certificate.lines, first):
         if not is_own_text(levels, line):
             raise Fault(f"trails Line line {at}")
     wrong, ends = levels.first_unproved([Lemma(line.bound, line.done, state_of(levels.gates, line)) for line in certificate.lines])
     if wrong is not None:
         raise Fault(f"trails Unproved line {first + wrong}")
-    proved = gaps_proved(ends)
+    proved = max(0, gaps_proved(ends) - columns_lost(fingers, stay))
     check_row(fingers, certificate, proved)
     return certificate, proved

@@ -1,136 +1,11 @@
 """Changes of certificates by trails of versions 2 and 3, mostly one at a time, as text. Many are faults; some say something else that is true."""
-from left_out import gates_with_more
+from fingers import columns_on
+from left_out import LeftOut, gates_with, staying
+from lemma_damage import joined, less, of_lemma, split, words_with
 from pool_text import FEWER, VERSION
+from pools import may_fill, uneven
 
 HEAD = 4                                                     # lines before the lemmas in version 2
-
-
-def words_with(line, at, word):
-    words = line.split(" ")
-    words[at] = word
-    return " ".join(words)
-
-
-def split(word, between=","):
-    return [] if word == "-" else word.split(between)
-
-
-def joined(items):
-    return ",".join(items) or "-"
-
-
-def less(draw, items):
-    """The items but one."""
-    at = draw.randrange(len(items))
-    return items[:at] + items[at + 1:]
-
-
-def any_place(draw, nets):
-    p, n = draw.randrange(nets), draw.randrange(nets)
-    return draw.choice((f"{p}.{n}", f"{p}.{n}", f"{p}.*", f"*.{n}"))
-
-
-def rank(place):
-    p, n = place.rstrip("!").split(".")
-    return (1, int(p)) if n == "*" else (2, int(n)) if p == "*" else (0, int(p), int(n))
-
-
-def in_order(places):
-    """The places of a class in the order of a text."""
-    marked = any(place.endswith("!") for place in places)
-    return "+".join(sorted({place.rstrip("!") for place in places}, key=rank)) + "!" * marked
-
-
-def classes_in_order(classes):
-    return sorted((in_order(one.split("+")) for one in classes if one), key=lambda one: rank(one.split("+")[0]))
-
-
-def of_other_row(place):
-    """A pool of the other row in place of a pool."""
-    p, n = place.rstrip("!").split(".")
-    return f"{n}.{p}" + "!" * place.endswith("!") if "*" in (p, n) else place
-
-
-def of_nodes(draw, nets, items):
-    """Changes of ODD."""
-    node = f"{draw.randrange(nets)}.{draw.randrange(nets)}"
-    yield "an odd node more", sorted({*items, node}, key=rank)
-    if items:
-        yield "an odd node less", less(draw, items)
-        yield "another odd node", sorted({*items[1:], node}, key=rank)
-        yield "odd nodes turned round", items[::-1]
-
-
-def of_balances(draw, nets, items):
-    """Changes of FREE."""
-    by_net = {int(item.replace("-", "+").split("+")[0]): item for item in items}
-
-    def put(changed):
-        return [changed[net] for net in sorted(changed)]
-    net, count = draw.randrange(nets), draw.choice((1, 1, 2, 64, 65, 0))
-    yield "a balance set", put({**by_net, net: f"{net}{draw.choice('+-')}{count}"})
-    yield "a balance of no net", put({**by_net, nets: f"{nets}+1"})
-    if items:
-        net = draw.choice(sorted(by_net))
-        item = by_net[net]
-        yield "a balance dropped", put({other: it for other, it in by_net.items() if other != net})
-        yield "waiting for free", put({**by_net, net: item.translate(str.maketrans("+-", "-+"))})
-        yield "a balance more by two", put({**by_net, net: item[:-1] + str((int(item[-1]) + 2) % 10)})
-        yield "balances turned round", items[::-1]
-
-
-def of_classes(draw, nets, items):
-    """Changes of CLASSES."""
-    new, put = any_place(draw, nets), classes_in_order
-    yield "a class more", put([*items, new])
-    if not items:
-        return
-    at = draw.randrange(len(items))
-    one, rest = items[at], items[:at] + items[at + 1:]
-    places = one.split("+")
-    yield "a class less", rest
-    yield "a mark turned", [one.rstrip("!") if it == one and "!" in one else it + "!" * (it == one) for it in items]
-    yield "a place more", put([*rest, f"{new}+{one}"])
-    yield "a place less", put([*rest, "+".join(less(draw, places))])
-    yield "classes turned round", items[::-1]
-    if rest:
-        other = draw.choice(rest)
-        moved = draw.choice(other.rstrip("!").split("+"))
-        yield "a place of two classes", put([*rest, f"{moved}+{one}"])
-        yield "two classes joined", put([*(it for it in rest if it != other), f"{other}+{one}"])
-    if len(places) > 1:
-        cut = draw.randrange(1, len(places))
-        yield "a class parted", put([*rest, "+".join(places[:cut]), "+".join(places[cut:])])
-
-
-def of_own_text(draw, nets, line):
-    """Changes after which a line is mostly not the text of its state."""
-    _, bound, _, odd, free, classes = line.split(" ")
-    each, net = split(classes), draw.randrange(nets)
-
-    def put(changed):
-        return words_with(line, 5, joined(classes_in_order(changed)))
-    yield "before the first gate", words_with(line, 2, "0")
-    yield "after the last gate", words_with(line, 2, "31")
-    yield "any place in a new class", put([*each, any_place(draw, nets)])
-    yield "odd nodes of no class", words_with(words_with(line, 5, "-"), 3, odd if odd != "-" else f"{net}.{draw.randrange(nets)}")
-    yield "balances before the first gate", f"lemma {bound} 0 - {free if free != '-' else f'{net}-1'} -"
-    if each:
-        yield "a place also in a class of its own", put([*each, draw.choice(each).rstrip("!").split("+")[-1]])
-    if "*" in classes:
-        yield "pools of the facing row", put("+".join(map(of_other_row, one.split("+"))) for one in each)
-
-
-def of_lemma(draw, nets, line):
-    """Changes of a lemma, most of them of one field."""
-    _, bound, done, odd, free, classes = line.split(" ")
-    yield "a greater bound", words_with(line, 1, str(int(bound) + draw.choice((1, 2))))
-    yield "a lesser bound", words_with(line, 1, str(int(bound) - 1))
-    yield "other gates", words_with(line, 2, str(int(done) + draw.choice((1, -1, 30))))
-    for at, word, of in ((3, odd, of_nodes), (4, free, of_balances), (5, classes, of_classes)):
-        for what, items in of(draw, nets, split(word)):
-            yield what, words_with(line, at, joined(items))
-    yield from of_own_text(draw, nets, line)
 
 
 def of_nets(draw, nets, line, name):
@@ -146,6 +21,23 @@ def of_nets(draw, nets, line, name):
         first, second = draw.sample(range(len(items)), 2)
         items[first], items[second] = items[second], items[first]
         yield f"{name} swapped", f"{name} " + joined(items)
+
+
+def of_fill(draw, stay, line):
+    """Changes of which gates are filled and which stay open, of those of the fingers that stay."""
+    filled, gates = {int(net) for net in split(line.split(" ")[1])}, uneven(stay)
+    even = [gate for gate in columns_on(stay) if gate not in gates]
+    needed = [gate for gate in sorted(filled) if not may_fill(stay, filled - {gate})]
+
+    def put(what):
+        return "fill " + joined(map(str, sorted(what)))
+    if even:
+        yield "a gate without half columns filled", put({*filled, draw.choice(even)})
+    if needed:
+        yield "open gates with more fingers in different rows", put(filled - {draw.choice(needed)})
+    yield "no gate filled", put(())
+    yield "all gates with half columns filled", put(gates)
+    yield "the open gates filled, the others open", put({*gates} - filled)
 
 
 def of_row(draw, lines, first):
@@ -165,29 +57,42 @@ def of_row(draw, lines, first):
     yield "a column changed", [*lines[:at], words_with(lines[at], field, draw.choice("-0123")), *lines[at + 1:]]
 
 
+def of_gates_left_out(draw, fingers, stay, lines):
+    """Changes of the gates on which fingers are left out, some of them with those of the order."""
+    row, items, (fill, order) = lines[1].split(" ")[1], lines[1].split(" ")[2].split(","), (split(line.split(" ")[1]) for line in lines[4:6])
+    others = [str(gate) for gate in gates_with(fingers, row) if str(gate) not in items]
+    gone = [str(gate) for gate in columns_on(fingers) if gate not in columns_on(stay)]
+
+    def put(gates, filled=fill, ordered=order):
+        without = f"without {row} " + ",".join(sorted(gates, key=int))
+        return [lines[0], without, *lines[2:4], "fill " + joined(filled), "order " + joined(ordered), *lines[6:]]
+    if others:
+        gate = draw.choice(others)
+        yield "a gate more", put([*items, gate])
+        yield "a gate more that is in no order", put([*items, gate], [one for one in fill if one != gate], [one for one in order if one != gate])
+    if gone:
+        yield "a gate of no finger that stays in the order", put(items, fill, [*order, draw.choice(gone)])
+    if len(items) > 1:
+        yield "a gate less", put(less(draw, items))
+
+
 def of_left_out(draw, fingers, lines):
     """Changes of the two lines of version 3 that are before a text of version 2."""
     first, (_, row, listing), rest = lines[0], lines[1].split(" "), lines[2:]
     items, nets, other = listing.split(","), len(fingers.nets), "N" if row == "P" else "P"
-    fewer = gates_with_more(fingers, row)
 
     def put(gates, at=row):
         return [first, f"without {at} {gates}", *rest]
 
-    def also(net):
-        return ",".join(sorted({*items, str(net)}, key=int))
     yield "the other row left out", put(listing, other)
     yield "no such row", put(listing, draw.choice((row.lower(), "-", "", "PN", "0")))
     yield "a gate twice", put(f"{listing},{items[-1]}")
     yield "gates not ascending", put(f"{listing},{draw.randrange(int(items[-1]) + 1)}")
-    yield "any net more", put(also(draw.randrange(nets)))
+    yield "any net more", put(",".join(sorted({*items, str(draw.randrange(nets))}, key=int)))
     yield "a gate of no net", put(f"{listing},{nets}")
     yield "no gates", put(draw.choice(("-", "", f"{listing},", f"{listing},-", f"0{listing}", f"+{listing}")))
     yield "all nets", put(",".join(map(str, range(nets))))
-    if fewer:
-        yield "a gate with fewer fingers in the other row", put(also(draw.choice(fewer)))
     if len(items) > 1:
-        yield "a gate less", put(",".join(less(draw, items)))
         yield "gates turned round", put(",".join(items[::-1]))
     yield "words more", put(f"{listing} {draw.choice((listing, '', '-'))}")
     yield "without the line of what is left out", [first, *rest]
@@ -203,15 +108,20 @@ def of_left_out(draw, fingers, lines):
 def changes(draw, fingers, lines):
     """Pairs of what is changed and the lines then; first the lines as they are."""
     if lines[0] == FEWER:
-        yield from ((what, [*lines[:2], *new]) for what, new in of_text(draw, len(fingers.nets), lines[2:]))
+        _, row, listing = lines[1].split(" ")
+        stay = staying(fingers, LeftOut(row, [int(gate) for gate in listing.split(",")]))
+        yield from ((what, [*lines[:2], *new]) for what, new in of_text(draw, stay, lines[2:]))
+        yield from of_gates_left_out(draw, fingers, stay, lines)
         yield from of_left_out(draw, fingers, lines)
     else:
-        yield from of_text(draw, len(fingers.nets), lines)
+        yield from of_text(draw, fingers, lines)
         yield "fingers left out", [FEWER, f"without {draw.choice('PN')} {draw.choice(lines[3].split(' ')[1].split(','))}", *lines]
 
 
-def of_text(draw, nets, lines):
-    """Changes of a text of version 2."""
+def of_text(draw, stay, lines):
+    """Changes of a text of version 2 about these fingers."""
+    nets = len(stay.nets)
+
     def put(at, *new):
         return [*lines[:at], *new, *lines[at + 1:]]
     yield "nothing", lines
@@ -221,6 +131,8 @@ def of_text(draw, nets, lines):
     for at, name in ((2, "fill"), (3, "order")):
         for what, line in of_nets(draw, nets, lines[at], name):
             yield what, put(at, line)
+    for what, line in of_fill(draw, stay, lines[2]):
+        yield what, put(2, line)
     lemmas = [at for at, line in enumerate(lines) if line.startswith("lemma ")]
     for at in draw.sample(lemmas, min(3, len(lemmas))):
         for what, line in of_lemma(draw, nets, lines[at]):

@@ -6,7 +6,7 @@ plain and slow, and shares no code with the program.
 from collections import defaultdict, namedtuple
 from functools import lru_cache
 
-from fingers import columns_on
+from fingers import columns_on, has_more_p
 from trails import Lemma, edges_of, joined, nets_of
 
 P_POOL, N_POOL = 256, 257                                    # above each net
@@ -57,18 +57,18 @@ def with_edges(edges, more):
 
 
 class Gates:
-    """The gates of an order, of which some stay open: their choices, and what they can meet."""
+    """The gates of an order, of which some stay open, all with more fingers in one row: their choices, and what they can meet."""
 
     def __init__(self, fingers, order, fill):
-        on = {gate: [sum(one.gate == gate for one in row) for row in (fingers.p, fingers.n)] for gate in order}
-        left_open = [gate for gate in order if on[gate][0] != on[gate][1] and gate not in fill]
-        self.in_p = not left_open or on[left_open[0]][0] > on[left_open[0]][1]
-        self.fingers = fingers
-        self.counted, self.facing = (fingers.p, fingers.n) if self.in_p else (fingers.n, fingers.p)
-        self.open = {gate for gate in left_open if (on[gate][0] > on[gate][1]) == self.in_p}
-        self.pools = set().union(*(nets_on(self.counted, gate) for gate in left_open))
+        with_more = [[gate for gate in uneven(fingers) if gate in order and has_more_p(fingers, gate) == in_p] for in_p in (True, False)]
+        left_open = [[gate for gate in gates if gate not in fill] for gates in with_more]
+        if all(left_open):
+            raise ValueError("the gates that are left open have more fingers in different rows")
+        self.fingers, self.in_p, self.open = fingers, not left_open[1], {*left_open[0], *left_open[1]}
+        self.counted = fingers.p if self.in_p else fingers.n
+        self.pools = set().union(*(nets_on(self.counted, gate) for gate in self.open))
         self.numbers, self.columns = {}, {}                  # each edge has a number, and each column those of its edges
-        self.fewer = [{gate for gate in order if on[gate][row] < on[gate][not row]} for row in (0, 1)]
+        self.fewer = with_more[::-1]                         # the gates with fewer P fingers, and those with fewer N fingers
 
     def pool(self, net):
         return (P_POOL if self.in_p else N_POOL), net
@@ -223,6 +223,12 @@ class PoolLevels:
 def uneven(fingers):
     """The gates with half columns."""
     return [gate for gate, (_, halves) in columns_on(fingers).items() if halves]
+
+
+def may_fill(fingers, fill):
+    """Whether each of these gates has half columns, and all others that have some have more fingers in one row."""
+    gates = uneven(fingers)
+    return set(fill) <= set(gates) and len({has_more_p(fingers, gate) for gate in gates if gate not in fill}) < 2
 
 
 def short_order(fingers, fill):

@@ -7,7 +7,7 @@ import itertools
 from collections import Counter, namedtuple
 from functools import lru_cache
 
-from fingers import columns_on
+from fingers import columns_on, has_more_p
 
 State = namedtuple("State", "odd classes")                   # nodes; classes as (nodes, flagged)
 Lemma = namedtuple("Lemma", "bound done state")
@@ -51,7 +51,7 @@ class Open:
 
     def __init__(self, fingers, fill):
         self.gates = [gate for gate in filled(fingers) if gate not in fill]
-        longer = {sum(one.gate == gate for one in fingers.p) > sum(one.gate == gate for one in fingers.n) for gate in self.gates}
+        longer = {has_more_p(fingers, gate) for gate in self.gates}
         if len(longer) > 1:
             raise ValueError("the gates that are left open have more fingers in different rows")
         self.in_p = longer != {False}
