@@ -47,7 +47,7 @@ IsOpenBy _ inputs proved _ = ⊥
 -- so.
 abbrev pub Crowds : Evidence → Inputs → NetNo → Type 0
 Crowds Log inputs gate = ⊥
-Crowds Trails inputs gate = IsEitherCrowded inputs.fingers gate
+Crowds Trails inputs gate = IsEitherCrowded inputs.fingers inputs.tech.budget gate
 
 abbrev pub IsSearched : Evidence → Inputs → Searched → Type 0
 IsSearched evidence inputs (Found row certificate) = IsFoundBy evidence inputs row certificate

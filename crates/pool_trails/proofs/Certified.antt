@@ -47,7 +47,7 @@ use Rattle.pool_trails.specs.declared.opening.Opening.{Opening}
 use Rattle.pool_trails.specs.Found.{IsPrunedProof}
 use Rattle.pool_trails.specs.Ended.{IsPoolCertified, IsPoolFound, IsPoolProved, IsPoolSpent, attempts_where}
 use Rattle.pool_trails.specs.Inner.{IsPoolProof}
-use Rattle.pool_trails.specs.Opening.{gaps_by, is_uncrowded, lost_by, opened_of, out_of, staying_by}
+use Rattle.pool_trails.specs.Opening.{gaps_by, lost_by, opened_of, out_of, staying_by}
 use Rattle.pool_trails.proofs.LeftOut.{out_fits_kinds}
 
 -- the gaps that are proved of all fingers, from the columns lost

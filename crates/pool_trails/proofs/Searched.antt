@@ -146,11 +146,10 @@ module _ (f : Fingers) (gates : PoolGates) (g : ArePoolGates f gates) where
         (map (line_at ps) proof.lemmas) ≡ proof.lemmas) (sym a.pools) h)
 
     -- no text lists the lemmas
-    unlisted : AreUnlistedAlong k along gates proof.lemmas → IsUnlisted gates.opening f k
+    unlisted : AreUnlistedAlong k along gates proof.lemmas → IsUnlisted gates.opening f budget k
     unlisted none = record {
       order = gates.order;
       is = g.is;
-      budget = budget;
       proof = proof;
       found = found;
       none = λ few fits same. none
@@ -169,7 +168,7 @@ module _ (f : Fingers) (gates : PoolGates) (g : ArePoolGates f gates) (k : Kinds
     (proof : EndProof PoolState) (lemmas : List (EndLemma PoolState)) (listed : lemmas ≡ proof.lemmas)
     (a : IsAlong f (opened_of gates.opening f gates.order) gates.order along)
     (found : IsFoundAlong gates.opening f gates.order budget proof) where
-  pub unlisted_by : AreUnlistedAlong k along gates lemmas → IsUnlisted gates.opening f k
+  pub unlisted_by : AreUnlistedAlong k along gates lemmas → IsUnlisted gates.opening f budget k
   unlisted_by none =
       unlisted f gates g k along budget proof a found (subst (AreUnlistedAlong k along gates) listed none)
 

@@ -106,23 +106,22 @@ pub record HasManyOpen (opening : Opening) (f : Fingers) : Type 0 where
   pub gate : NetNo
   pub first : first_with_many f (opened_of opening f order) order ≡ Some gate
 
--- for an order of the gates lemmas were found that no text lists
-pub record IsUnlisted (opening : Opening) (f : Fingers) (k : Kinds) : Type 0 where
+-- for an order of the gates a search within the budget found lemmas that no text lists
+pub record IsUnlisted (opening : Opening) (f : Fingers) (budget : ℕ) (k : Kinds) : Type 0 where
   pub order : List NetNo
   pub is : IsOrder f order
-  pub budget : ℕ
   pub proof : EndProof PoolState
   pub found : IsFoundAlong opening f order budget proof
   pub none : AreUnlisted opening f k order proof.lemmas
 
 -- No lemmas can be listed. Where fingers are left out, this is never for a gate with too many ways.
-abbrev pub IsPoolCrowded : Opening → Fingers → Type 0
-IsPoolCrowded (Without row) f = WithKinds f (IsUnlisted (Without row) (staying_by (Without row) f))
-IsPoolCrowded opening f = HasManyOpen opening f ⊎ WithKinds f (IsUnlisted opening f)
+abbrev pub IsPoolCrowded : Opening → Fingers → ℕ → Type 0
+IsPoolCrowded (Without row) f budget = WithKinds f (IsUnlisted (Without row) (staying_by (Without row) f) budget)
+IsPoolCrowded opening f budget = HasManyOpen opening f ⊎ WithKinds f (IsUnlisted opening f budget)
 
 abbrev pub IsPoolStopped : Opening → Fingers → ℕ → PoolStop → Type 0
 IsPoolStopped opening f budget (stopped.Unfinished certificate proved) =
     IsPoolSpent opening f budget certificate proved
 IsPoolStopped opening f budget (stopped.InVain certificate proved) = IsPoolInVain opening f budget certificate proved
-IsPoolStopped opening f budget stopped.Crowded = IsPoolCrowded opening f
+IsPoolStopped opening f budget stopped.Crowded = IsPoolCrowded opening f budget
 IsPoolStopped opening f budget stopped.NoMemory = Unit {0}

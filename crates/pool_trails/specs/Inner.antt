@@ -82,5 +82,5 @@ pub record IsPoolProof (f : Fingers) (gates : PoolGates) (k : Kinds) (budget : �
   pub fits : PoolsFit k pools
 
 -- a gate has too many ways, or no text lists the lemmas
-abbrev pub CannotProve : Opening → Fingers → Kinds → Type 0
-CannotProve opening f k = HasManyOpen opening f ⊎ IsUnlisted opening f k
+abbrev pub CannotProve : Opening → Fingers → ℕ → Kinds → Type 0
+CannotProve opening f budget k = HasManyOpen opening f ⊎ IsUnlisted opening f budget k

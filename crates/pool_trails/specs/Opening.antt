@@ -53,7 +53,7 @@ staying_by opening f = staying (out_of opening f) f
 abbrev pub lost_by : Opening → Fingers → ℕ
 lost_by opening f = columns_lost f (staying_by opening f)
 
--- what so many ends of these come to, less the columns lost: each arrangement of all has as many gaps
+-- what these ends of the others come to, less the columns lost: each arrangement of all has at least as many gaps
 abbrev pub gaps_by : Opening → Fingers → ℕ → ℕ
 gaps_by opening f ends = gaps_proved ends - lost_by opening f
 

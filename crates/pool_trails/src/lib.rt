@@ -3,6 +3,7 @@
 
 mod found;
 mod gates;
+mod laws;
 mod left_out;
 mod lemmas;
 mod listed;
@@ -10,6 +11,7 @@ mod opening;
 mod search;
 
 pub use found::{PoolFound, PoolStop};
+pub use laws::ways_without;
 pub use left_out::{first_out, other_row};
 pub use opening::Opening;
 pub use search::search_pool_row;

@@ -115,7 +115,7 @@ fn proof_along(
     requires fingers { AreFingers fingers.now }
     requires gates { ArePoolGates fingers.now gates.now }
     ensures proof { IfOk result (λ r. IsPoolProof fingers.now gates.now kinds.now budget r.proof r.pools) }
-    ensures stopped { IfErr result (Stops (CannotProve gates.now.opening fingers.now kinds.now)) }
+    ensures stopped { IfErr result (Stops (CannotProve gates.now.opening fingers.now budget kinds.now)) }
 {
     let along = along(alloc, fingers, gates)?;
     let proof = lemmas_along(alloc, fingers, gates, &along, budget)?;

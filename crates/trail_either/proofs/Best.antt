@@ -6,7 +6,7 @@ use Rattle.std.proofs.lemmas.Bool.{ltb-false, ltb-true}
 use Rattle.trail_either.specs.declared.in_vain.InVain.{InVain}
 use Rattle.trail_either.specs.Ends.{better}
 
--- what the best proves is at most so many
+-- the best proves no more gaps than these
 abbrev pub Least : Option InVain → ℕ → Type 0
 Least None most = Unit {0}
 Least (Some best) most = best.proved ≤ most

@@ -40,7 +40,7 @@ HasHalfColumns f = uneven_gates f ≢ []
 -- but every arrangement has more. Or no lemmas can be listed.
 abbrev pub EndsBelow : Fingers → ℕ → ℕ → Opening → Type 0
 EndsBelow f budget most opening =
-    IsPoolCrowded opening f
+    IsPoolCrowded opening f budget
     ⊎ ((c : FewerCertificate) × (proved : ℕ) × (proved ≤ most) × IsPoolInVain opening f budget c proved)
 
 -- No gate has half columns; or a search that leaves open those of one row ends so.
@@ -109,19 +109,19 @@ pub record IsEitherOpen (f : Fingers) (budget : ℕ) (evidence : TrailEvidence) 
   pub within : IsSpentWithin f budget proved evidence proved
       ⊎ (IsVain f budget evidence proved × (IsSpentBelow f budget proved ⊎ AllEndBelow f budget proved))
 
--- A search for a certificate of version 1 ends at the gate. Those with pools before and after it can list no lemmas.
--- For the last two it is only that no text has their lines.
-pub record IsEitherCrowded (f : Fingers) (gate : NetNo) : Type 0 where
-  pub longer : (uneven_gates f ≡ []) ⊎ IsPoolCrowded Longer f
+-- A search for a certificate of version 1 ends at the gate. Those with pools before and after it can list no lemmas
+-- within the budget. For the last two it is only that no text lists their lemmas.
+pub record IsEitherCrowded (f : Fingers) (budget : ℕ) (gate : NetNo) : Type 0 where
+  pub longer : (uneven_gates f ≡ []) ⊎ IsPoolCrowded Longer f budget
   pub filled : IsCrowded f gate
-  pub crowded : IsPoolCrowded Crowded f
-  pub without_n : IsPoolCrowded (Without N) f
-  pub without_p : IsPoolCrowded (Without P) f
+  pub crowded : IsPoolCrowded Crowded f budget
+  pub without_n : IsPoolCrowded (Without N) f budget
+  pub without_p : IsPoolCrowded (Without P) f budget
 
 abbrev pub IsFound : Fingers → ℕ → EitherFound → Type 0
 IsFound f budget found = IsEitherFound f budget found.row found.evidence
 
 abbrev pub Stops : Fingers → ℕ → EitherStop → Type 0
 Stops f budget (stopped.Unfinished evidence proved) = IsEitherOpen f budget evidence proved
-Stops f budget (stopped.Choices gate) = IsEitherCrowded f gate
+Stops f budget (stopped.Choices gate) = IsEitherCrowded f budget gate
 Stops f budget stopped.NoMemory = Unit {0}

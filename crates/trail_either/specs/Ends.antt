@@ -47,11 +47,11 @@ IsBest f budget best = IfSome best (λ vain. IsVain f budget (Pools vain.certifi
 
 -- a search with pools; where nothing is proved, none can list lemmas
 abbrev pub EndsBy : Fingers → ℕ → Option InVain → Opening → Type 0
-EndsBy f budget None opening = IsPoolCrowded opening f
+EndsBy f budget None opening = IsPoolCrowded opening f budget
 EndsBy f budget (Some vain) opening = EndsBelow f budget vain.proved opening
 
 abbrev pub LongerBy : Fingers → ℕ → Option InVain → Type 0
-LongerBy f budget None = (uneven_gates f ≡ []) ⊎ IsPoolCrowded Longer f
+LongerBy f budget None = (uneven_gates f ≡ []) ⊎ IsPoolCrowded Longer f budget
 LongerBy f budget (Some vain) = EndsLonger f budget vain.proved
 
 -- that for version 1 ended at the gate

@@ -20,6 +20,7 @@ returns-in-Err-Unfinished c =
 
 pub returns-in-Err-Choices : goal.returns-in-Err-Choices
 returns-in-Err-Choices c =
-    let crowded : IsEitherCrowded c.inputs.inside.fingers c.in-Err-Choices.gate =
+    let inside : Inputs = inputs_of c.inputs.inside.tech c.inputs.inside.cell c.inputs.inside.fingers in
+    let crowded : IsEitherCrowded c.inputs.inside.fingers c.budget.result c.in-Err-Choices.gate =
     subst (λ (s : EitherStop). Stops c.inputs.inside.fingers c.budget.result s) c.in-Err-Choices.field-0-is c.in-Err-Choices.ensures.stopped in
-    subst (λ (i : Inputs). IsEitherCrowded i.fingers c.in-Err-Choices.gate) c.inputs.view_is crowded
+    of_inputs (λ (f : Fingers) (b : ℕ). IsEitherCrowded f b c.in-Err-Choices.gate) inside c.args.inputs.now c.budget.result c.inputs.view_is c.budget.ensures.is crowded
